@@ -1,0 +1,11 @@
+-- numbers::bits::within meets its contract. Assumes nothing.
+use Rattle.numbers.specs.Bits.{within-and}
+use Rattle.numbers.specs.Decides.{decides-eqb}
+use Rattle.numbers.proofs.bits.within.Statement.{statement}
+use Rattle.numbers.proofs.bits.within.Tie as tie
+
+returns : tie.Need-returns
+returns c = decides-eqb _ _ (within-and (c .args .a) (c .args .b))
+
+pub within-spec : {M : Type 1} → statement M
+within-spec = tie.close (tie.spec returns)

@@ -1,0 +1,149 @@
+-- The binary places of a number as a set of numbers, and the laws of `&`, `|`, shift and the count of ones.
+use mathlib.Core.Path.{_≡_, refl, sym, ap, _∙_}
+use mathlib.Core.Logic.{_⊎_, inl, inr, ⊎-elim, _↔_}
+use Prim.Native.Nat.{ℕ, zero, suc, _+_, _/_, _%_, _*_, _^_, _<_, _≤_, min, max, zero-le, suc-le-suc}
+use native.Mathlib.Nat.{pow-suc, not-suc-le-zero, le-of-suc-le-suc, div-one, add-comm}
+use native.Mathlib.Numerals.{add-one}
+use native.Mathlib.Omega.{arith}
+use native.Mathlib.Decide.{decLt, ℕ-discrete}
+use lib.Arith.{digits-div, digits-mod, lt-one}
+use lib.Pow.{shr-shr}
+use lib.Count.{ones, onesIn, ones-step}
+use lib.Bits.{bitAnd, bitOr, and-step, or-step, and-le-l}
+use Rattle.numbers.specs.Sum.{sum}
+
+-- place i of the number m in base two: 0 or 1
+unfoldable pub bit : ℕ → ℕ → ℕ
+bit m zero = m % 2
+bit m (suc i) = bit (m / 2) i
+
+-- the set m has i
+abbrev pub Has : ℕ → ℕ → Type 0
+Has m i = bit m i ≡ 1
+
+-- every number that a has, b has
+abbrev pub Within : ℕ → ℕ → Type 0
+Within a b = (i : ℕ) → Has a i → Has b i
+
+-- how many of the numbers below k the set m has
+abbrev pub size : ℕ → ℕ → ℕ
+size k m = sum (bit m) k
+
+-- the set m with i
+abbrev pub adding : ℕ → ℕ → ℕ
+adding m i = bitOr m (2 ^ i)
+
+pub bit-lt : (m i : ℕ) → bit m i < 2
+unfolding bit
+bit-lt m zero = omega arith
+bit-lt m (suc i) = bit-lt (m / 2) i
+
+pub has-or-not : (m i : ℕ) → Has m i ⊎ (bit m i ≡ 0)
+has-or-not m i = go (bit m i) (bit-lt m i)
+  where
+    go : (b : ℕ) → b < 2 → (b ≡ 1) ⊎ (b ≡ 0)
+    go zero h = inr refl
+    go (suc b) h = inl (omega arith)
+
+-- a shift brings place i to the lowest
+pub bit-shift : (m i : ℕ) → m / 2 ^ i % 2 ≡ bit m i
+unfolding bit
+bit-shift m zero = rw div-one
+bit-shift m (suc i) =
+    ap (λ (x : ℕ). m / 2 ^ x % 2) (sym (add-one i) ∙ add-comm i 1) ∙ ap (λ (x : ℕ). x % 2) (sym (shr-shr m 1 i)) ∙ bit-shift (m / 2) i
+
+pub bit-and : (a b i : ℕ) → bit (bitAnd a b) i ≡ min (bit a i) (bit b i)
+unfolding bit
+bit-and a b zero = rw and-step (digits-mod _ (omega arith))
+bit-and a b (suc i) = ap (λ (x : ℕ). bit x i) (rw and-step (digits-div _ (omega arith))) ∙ bit-and (a / 2) (b / 2) i
+
+pub bit-or : (a b i : ℕ) → bit (bitOr a b) i ≡ max (bit a i) (bit b i)
+unfolding bit
+bit-or a b zero = rw or-step (digits-mod _ (omega arith))
+bit-or a b (suc i) = ap (λ (x : ℕ). bit x i) (rw or-step (digits-div _ (omega arith))) ∙ bit-or (a / 2) (b / 2) i
+
+pub bit-zero : (i : ℕ) → bit 0 i ≡ 0
+unfolding bit
+bit-zero zero = refl
+bit-zero (suc i) = bit-zero i
+
+half-pow : (i : ℕ) → 2 ^ suc i / 2 ≡ 2 ^ i
+half-pow i = rw pow-suc (omega arith)
+
+pub bit-pow-same : (i : ℕ) → bit (2 ^ i) i ≡ 1
+unfolding bit
+bit-pow-same zero = refl
+bit-pow-same (suc i) = ap (λ (x : ℕ). bit x i) (half-pow i) ∙ bit-pow-same i
+
+pub bit-pow-other : (i j : ℕ) → (j ≡ i → ⊥) → bit (2 ^ i) j ≡ 0
+unfolding bit
+bit-pow-other zero zero h = absurd (h refl)
+bit-pow-other zero (suc j) h = bit-zero j
+bit-pow-other (suc i) zero h = rw pow-suc (omega arith)
+bit-pow-other (suc i) (suc j) h = ap (λ (x : ℕ). bit x j) (half-pow i) ∙ bit-pow-other i j (λ e. h (ap suc e))
+
+-- what the set with i has: i, and what it had
+pub has-adding : (m i j : ℕ) → Has (adding m i) j ↔ ((j ≡ i) ⊎ Has m j)
+has-adding m i j = (to (ℕ-discrete j i), from)
+  where
+    to : Dec (j ≡ i) → Has (adding m i) j → (j ≡ i) ⊎ Has m j
+    to (yes e) h = inl e
+    to (no n) h = inr (omega (arith, bit-or m (2 ^ i) j, bit-pow-other i j n))
+
+    from : (j ≡ i) ⊎ Has m j → Has (adding m i) j
+    from (inl e) = rw (e, bit-or, bit-pow-same) (omega (arith, bit-lt m i))
+    from (inr h) = rw (bit-or, h) (omega (arith, bit-lt (2 ^ i) j))
+
+-- two sets below 2 ^ k that have the same numbers are one
+pub bit-ext : (k a b : ℕ) → a < 2 ^ k → b < 2 ^ k → ((i : ℕ) → i < k → bit a i ≡ bit b i) → a ≡ b
+unfolding bit
+bit-ext zero a b ha hb h = lt-one ha ∙ sym (lt-one hb)
+bit-ext (suc k) a b ha hb h =
+    let ha′ : a < 2 ^ k * 2 = rw pow-suc at ha in
+    let hb′ : b < 2 ^ k * 2 = rw pow-suc at hb in
+    let e : a / 2 ≡ b / 2 = bit-ext k (a / 2) (b / 2) (omega arith) (omega arith) (λ i l. h (suc i) (suc-le-suc l)) in
+    let e0 : a % 2 ≡ b % 2 = h zero (suc-le-suc zero-le) in
+    omega arith
+
+-- a set below 2 ^ k has nothing from k on
+pub bit-out : (k m j : ℕ) → m < 2 ^ k → k ≤ j → bit m j ≡ 0
+unfolding bit
+bit-out zero m j h l = rw (lt-one h) (bit-zero j)
+bit-out (suc k) m zero h l = absurd (not-suc-le-zero l)
+bit-out (suc k) m (suc j) h l = let h′ : m < 2 ^ k * 2 = rw pow-suc at h in bit-out k (m / 2) j (omega arith) (le-of-suc-le-suc l)
+
+pub has-below : (k m j : ℕ) → m < 2 ^ k → Has m j → j < k
+has-below k m j h e = go (decLt j k)
+  where
+    go : Dec (j < k) → j < k
+    go (yes l) = l
+    go (no n) = absurd (omega (arith, bit-out k m j h (omega arith)))
+
+lt-pow : (n : ℕ) → n < 2 ^ n
+lt-pow zero = suc-le-suc zero-le
+lt-pow (suc n) = rw pow-suc (omega (arith, lt-pow n))
+
+-- a is within b exactly when `a & b` is a
+pub within-and : (a b : ℕ) → (bitAnd a b ≡ a) ↔ Within a b
+within-and a b = (to, from)
+  where
+    to : bitAnd a b ≡ a → Within a b
+    to e i h = let m : bit a i ≡ min (bit a i) (bit b i) = ap (λ (x : ℕ). bit x i) (sym e) ∙ bit-and a b i in omega (arith, bit-lt b i)
+
+    from : Within a b → bitAnd a b ≡ a
+    from w =
+        bit-ext a (bitAnd a b) a (omega (arith, and-le-l a b, lt-pow a)) (lt-pow a)
+        (λ i l. bit-and a b i ∙ ⊎-elim (λ (e : bit a i ≡ 1). let f : bit b i ≡ 1 = w i e in omega arith) (λ (e : bit a i ≡ 0). omega arith) (has-or-not a i))
+
+size-low : (k m : ℕ) → size (suc k) m ≡ m % 2 + size k (m / 2)
+unfolding sum bit
+size-low zero m = omega arith
+size-low (suc k) m = omega (arith, size-low k m)
+
+-- the count of ones is the size of the set
+pub ones-size : (k m : ℕ) → m < 2 ^ k → ones m ≡ size k m
+unfolding sum ones onesIn
+ones-size zero m h = rw (lt-one h)
+ones-size (suc k) m h =
+    let h′ : m < 2 ^ k * 2 = rw pow-suc at h in
+    ones-step m ∙ ap (λ (x : ℕ). m % 2 + x) (ones-size k (m / 2) (omega arith)) ∙ sym (size-low k m)

@@ -1,0 +1,10 @@
+-- The rules of plain numbers, and their laws.
+pub mod Extreme
+pub mod Decides
+pub mod Sum
+pub mod Common
+pub mod Euclid
+pub mod Multiples
+pub mod Quotient
+pub mod Bits
+pub mod Fraction

@@ -1,0 +1,44 @@
+// Common divisors and multiples.
+ghost use Rattle.numbers.specs.Common.{IsGcd, IsLcmWithin};
+
+// The greatest common divisor, by Euclid's steps.
+pub fn gcd(a: u64, b: u64) -> u64
+    ensures { λ r. ⌜ IsGcd a b r ⌝ }
+{
+    let mut x = a;
+    let mut y = b;
+    while y != 0 {
+        let r = x % y;
+        x = y;
+        y = r;
+    }
+    x
+}
+
+// The same at 32 bits.
+pub fn gcd32(a: u32, b: u32) -> u32
+    ensures { λ r. ⌜ IsGcd a b r ⌝ }
+{
+    gcd(a as u64, b as u64) as u32
+}
+
+// A multiple under a limit: its value, or that it is above.
+pub enum Multiple {
+    Is(u64),
+    Above,
+}
+
+// The least common multiple under a limit.
+pub fn lcm(a: u64, b: u64, limit: u64) -> Multiple
+    ensures { λ r. ⌜ IsLcmWithin a b limit r ⌝ }
+{
+    if b == 0 {
+        return Multiple::Is(0);
+    }
+    let q = a / gcd(a, b);
+    if q <= limit / b {
+        Multiple::Is(q * b)
+    } else {
+        Multiple::Above
+    }
+}
