@@ -1,6 +1,7 @@
 -- The rules of plain numbers, and their laws.
 pub mod Extreme
 pub mod Decides
+pub mod Every
 pub mod Sum
 pub mod Common
 pub mod Euclid

@@ -3,3 +3,4 @@ pub mod Limits
 pub mod Period
 pub mod Rate
 pub mod Refusal
+pub mod Text

@@ -1,0 +1,3 @@
+-- The rules of a mode's graph.
+pub mod Shape
+pub mod Proper

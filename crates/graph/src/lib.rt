@@ -1,0 +1,2 @@
+// The graphs of a table's modes.
+pub mod shape;

@@ -1,0 +1,33 @@
+// A table in memory. Modes, actors and processors are numbered from 1 in a table's text; in these arrays the one with number n stands at n - 1.
+use terms::limits::ACTORS;
+use terms::limits::CHANNELS;
+use terms::limits::MODES;
+use terms::limits::PHASES;
+use terms::units::Tick;
+
+// A stage of a mode: its phases, the most ticks that a firing needs, and the number of its processor.
+pub struct Actor {
+    pub phases: usize,
+    pub wcet: Tick,
+    pub processor: usize,
+}
+
+// A channel of a mode: the places of its two actors, and their rates, one for each phase, with 0 behind the last.
+pub struct Channel {
+    pub from: usize,
+    pub to: usize,
+    pub production: [u8; PHASES],
+    pub consumption: [u8; PHASES],
+}
+
+// A mode: the set of its active actors, what each of them is, and its first `count` channels in the order in which they are listed.
+pub struct Mode {
+    pub active: u16,
+    pub count: usize,
+    pub actors: [Actor; ACTORS],
+    pub channels: [Channel; CHANNELS],
+}
+
+pub struct Table {
+    pub modes: [Mode; MODES],
+}

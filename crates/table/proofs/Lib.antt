@@ -1,0 +1,18 @@
+-- What belongs to no one function.
+mod Records
+mod Written
+mod Parsed
+mod Lookup
+mod Judged
+mod Telling
+mod Reread
+mod Kept
+mod Rewritten
+mod Short
+mod Listing
+pub mod Again
+mod Scanning
+mod Numerals
+mod Progress
+mod Settled
+mod Worked

@@ -1,0 +1,69 @@
+-- table::row::channel_listed meets its contract. Assumes nothing.
+use borrow.Author.Needs.{needs}
+use borrow.Author.Tests.{le-leb, lt-leb}
+use mathlib.Core.Path.{_≡_, sym, ap, _∙_}
+use mathlib.Core.Bool.{false, not}
+use lib.Dec.{leb}
+use Rattle.terms.specs.Limits.{CHANNELS}
+use Rattle.table.specs.Judge.{hasb, channelListed}
+use Rattle.table.proofs.Listing.{lacks-is, pick-same}
+use Rattle.table.proofs.row.channel_listed.Statement.{statement}
+use Rattle.table.proofs.row.channel_listed.Tie as tie
+
+-- both actors are active, and there is room
+clear : (c : tie.Else3)
+    → let a = c .before .before .before .before .before .args in
+    (not (hasb (a .t1 .active) (a .line .actor)) ≡ false)
+    × (not (hasb (a .t1 .active) (a .line .to)) ≡ false)
+    × (leb CHANNELS (a .t1 .count) ≡ false)
+clear c =
+    let b = c .before in
+    let a = b .before .before in (
+      lacks-is _ _ (a .before .has .result) (a .before .has .ensures) ∙ a .if1 .left,
+      lacks-is _ _ (b .before .has2 .result) (b .before .has2 .ensures) ∙ b .if2 .left,
+      lt-leb _ _ (c .if3 .left),
+    )
+
+returns : tie.Need-returns
+unfolding channelListed
+returns c = c .refused .ensures ∙ rw (lacks-is _ _ (c .before .before .has .result) (c .before .before .has .ensures) ∙ c .before .if1 .taken)
+
+returns-2 : tie.Need-returns-2
+unfolding channelListed
+returns-2 c =
+    c .refused2 .ensures ∙ rw (lacks-is _ _ (c .before .before .has2 .result) (c .before .before .has2 .ensures) ∙ c .before .if2 .taken, pick-same)
+
+returns-3 : tie.Need-returns-3
+unfolding channelListed
+returns-3 c = c .refused3 .ensures ∙ rw (le-leb _ _ (c .before .if3 .taken), pick-same, pick-same)
+
+returns-4 : tie.Need-returns-4
+unfolding channelListed
+returns-4 c =
+    let (f, t, r) = clear (c .before .before .before .before .before .before .before) in
+    c .refused4 .ensures ∙ rw (f, t, r, ap not (sym (c .before .before .suits .ensures)) ∙ c .before .if4 .taken)
+
+returns-5 : tie.Need-returns-5
+unfolding channelListed
+returns-5 c =
+    let (f, t, r) = clear (c .before .before .before .before .before .before .before .before .before) in
+    c .refused5 .ensures ∙ rw (f, t, r, ap not (sym (c .before .before .suits2 .ensures)) ∙ c .before .if5 .taken, pick-same)
+
+returns-6 : tie.Need-returns-6
+unfolding channelListed
+returns-6 c =
+    let b = c .before .before in
+    let a = b .before .before in
+    let (f, t, r) = clear (c .before .before .before .before .before .before .before .before .before .before) in
+    rw (f, t, r, ap not (sym (a .before .suits .ensures)) ∙ a .if4 .left, ap not (sym (b .before .suits2 .ensures)) ∙ b .if5 .left)
+
+pub channel-listed-spec : {M : Type 1} → statement M
+channel-listed-spec =
+    tie.close
+    (tie.spec
+    (λ c κs. search needs) (λ c κs. search needs) returns
+    (λ c κs. search needs) (λ c κs. search needs) returns-2
+    (λ c κs. search needs) returns-3
+    (λ c. search needs) (λ c. search needs) (λ c. search needs) (λ c. search needs) (λ c κs. search needs) (λ c κs. search needs) returns-4
+    (λ c κs. search needs) (λ c κs. search needs) returns-5
+    (λ c. search needs) (λ c. search needs) (λ c. search needs) returns-6)

@@ -1,0 +1,76 @@
+// The reader of tables: RFC 4180 text to modes, or the first refusal of 1 to 5.
+ghost use mathlib.Core.Path.{_≡_};
+ghost use Rattle.table.specs.Told.{Told, readingOf, refused as refusedAt};
+
+pub mod bytes;
+mod number;
+mod rates;
+mod record;
+mod row;
+
+use graph::shape::Table;
+use terms::limits::ACTORS;
+use terms::limits::MOST_BYTES;
+use terms::refusal::Place;
+use terms::refusal::Refusal;
+
+pub enum Answer {
+    Read,
+    Refused(Refusal),
+}
+
+// The answer, and the table beside it: with nothing in it where the text is refused.
+pub struct Reading {
+    pub answer: Answer,
+    pub table: Table,
+}
+
+fn refused(number: u64, row: u64) -> Reading
+    ensures { λ r. ⌜ r ≡ readingOf (refusedAt number row) ⌝ }
+{
+    let place = Place::Row(row);
+    Reading {
+        answer: Answer::Refused(Refusal { number, place }),
+        table: row::nothing(),
+    }
+}
+
+// Reads a text.
+pub fn read(text: &[u8]) -> Reading
+    ensures { λ r. ⌜ Told (now (text .entry)) r ⌝ }
+{
+    let length = text.len();
+    if length == 0 {
+        return refused(1, 0);
+    }
+    if MOST_BYTES < length {
+        return refused(1, 0);
+    }
+    let mut table = row::nothing();
+    let mut homes = [0usize; ACTORS];
+    let mut at: usize = 0;
+    let mut row: u64 = 0;
+    while at < length {
+        row += 1;
+        let record = record::record_at(text, at);
+        if !record.good {
+            return refused(1, row);
+        }
+        let cells = record.cells;
+        let line = row::line_of(text, cells);
+        let m = line.mode;
+        let a = line.actor;
+        let step = row::listed(table.modes[m], homes[a], line);
+        if step.number != 0 {
+            return refused(step.number, row);
+        }
+        homes[a] = step.home;
+        let mode = step.mode;
+        table.modes[m] = mode;
+        at = record.next;
+    }
+    Reading {
+        answer: Answer::Read,
+        table,
+    }
+}
