@@ -111,18 +111,21 @@ zeros (x ∷ xs) = eqb x 0 && zeros xs
 abbrev pub suitsb : Rates → ℕ → Bool
 suitsb r p = eqb (r .count) p && not (zeros (r .values))
 
+abbrev pub channelTaken : Mode → ℕ → Line → Listing
+channelTaken m home l =
+    record {
+      number = 0;
+      home = home;
+      mode = withChannel m (record { from = l .actor; to = l .to; production = l .production .values; consumption = l .consumption .values });
+    }
+
 unfoldable pub channelListed : Mode → ℕ → Line → Listing
 channelListed m home l =
     pick (not (hasb (m .active) (l .actor))) (refusal 3 m)
     (pick (not (hasb (m .active) (l .to))) (refusal 3 m)
     (pick (leb CHANNELS (m .count)) (refusal 3 m)
     (pick (not (suitsb (l .production) (actorAt m (l .actor) .phases))) (refusal 5 m)
-    (pick (not (suitsb (l .consumption) (actorAt m (l .to) .phases))) (refusal 5 m)
-    (record {
-      number = 0;
-      home = home;
-      mode = withChannel m (record { from = l .actor; to = l .to; production = l .production .values; consumption = l .consumption .values });
-    })))))
+    (pick (not (suitsb (l .consumption) (actorAt m (l .to) .phases))) (refusal 5 m) (channelTaken m home l)))))
 
 unfoldable pub listed : Mode → ℕ → Line → Listing
 listed m home l = byKind (l .kind) (actorListed m home l) (channelListed m home l) (refusal 2 m)

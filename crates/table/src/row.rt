@@ -3,11 +3,11 @@ ghost use mathlib.Core.Path.{_≡_};
 ghost use mathlib.Core.List.{map};
 ghost use Prim.Native.Nat.{_^_, _<_, _≤_};
 ghost use Rattle.numbers.specs.Every.{Every};
-ghost use Rattle.terms.specs.Limits.{ACTORS as ACTORS-LIMIT};
+ghost use Rattle.terms.specs.Limits.{ACTORS as ACTORS-LIMIT, CHANNELS as CHANNELS-LIMIT};
 ghost use Rattle.graph.specs.Shape.{noActor as noActorOf, emptyTable};
 ghost use Rattle.table.specs.Scan.{InText, bytesOf};
 ghost use Rattle.table.specs.Digits.{numberOf, ratesOf, ratesIn};
-ghost use Rattle.table.specs.Judge.{kindOf, actorOf, channelOf, parsedOf, lineOf, none as noRow, refusal, suitsb, actorListed, channelListed, listed as listedOf};
+ghost use Rattle.table.specs.Judge.{kindOf, actorOf, channelOf, parsedOf, lineOf, none as noRow, refusal, suitsb, actorListed, channelTaken, channelListed, listed as listedOf};
 use crate::bytes::same;
 use crate::number::Number;
 use crate::number::number_of;
@@ -257,6 +257,31 @@ fn suits(rates: Rates, phases: usize) -> bool
     false
 }
 
+// The mode with the channel of a line.
+fn channel_taken(mode: Mode, home: usize, line: Line) -> Listing
+    requires { ⌜ mode .count < CHANNELS-LIMIT ⌝ }
+    ensures { λ r. ⌜ r ≡ channelTaken mode home line ⌝ }
+{
+    let count = mode.count;
+    let made = line.production;
+    let taken = line.consumption;
+    let production = made.values;
+    let consumption = taken.values;
+    let mut next = mode;
+    next.channels[count] = Channel {
+        from: line.actor,
+        to: line.to,
+        production,
+        consumption,
+    };
+    next.count = count + 1;
+    Listing {
+        number: 0,
+        home,
+        mode: next,
+    }
+}
+
 fn channel_listed(mode: Mode, home: usize, line: Line) -> Listing
     requires { ⌜ (line .actor < ACTORS-LIMIT) × (line .to < ACTORS-LIMIT) ⌝ }
     ensures { λ r. ⌜ r ≡ channelListed mode home line ⌝ }
@@ -275,29 +300,13 @@ fn channel_listed(mode: Mode, home: usize, line: Line) -> Listing
     }
     let giver = mode.actors[from];
     let taker = mode.actors[to];
-    let made = line.production;
-    let taken = line.consumption;
-    if !suits(made, giver.phases) {
+    if !suits(line.production, giver.phases) {
         return refused(5, mode);
     }
-    if !suits(taken, taker.phases) {
+    if !suits(line.consumption, taker.phases) {
         return refused(5, mode);
     }
-    let production = made.values;
-    let consumption = taken.values;
-    let mut next = mode;
-    next.channels[count] = Channel {
-        from,
-        to,
-        production,
-        consumption,
-    };
-    next.count = count + 1;
-    Listing {
-        number: 0,
-        home,
-        mode: next,
-    }
+    channel_taken(mode, home, line)
 }
 
 pub(crate) fn listed(mode: Mode, home: usize, line: Line) -> Listing

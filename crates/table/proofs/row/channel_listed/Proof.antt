@@ -40,22 +40,23 @@ returns-3 c = c .refused3 .ensures ∙ rw (le-leb _ _ (c .before .if3 .taken), p
 returns-4 : tie.Need-returns-4
 unfolding channelListed
 returns-4 c =
-    let (f, t, r) = clear (c .before .before .before .before .before .before .before) in
+    let (f, t, r) = clear (c .before .before .before .before .before) in
     c .refused4 .ensures ∙ rw (f, t, r, ap not (sym (c .before .before .suits .ensures)) ∙ c .before .if4 .taken)
 
 returns-5 : tie.Need-returns-5
 unfolding channelListed
 returns-5 c =
-    let (f, t, r) = clear (c .before .before .before .before .before .before .before .before .before) in
+    let (f, t, r) = clear (c .before .before .before .before .before .before .before) in
     c .refused5 .ensures ∙ rw (f, t, r, ap not (sym (c .before .before .suits2 .ensures)) ∙ c .before .if5 .taken, pick-same)
 
 returns-6 : tie.Need-returns-6
 unfolding channelListed
 returns-6 c =
-    let b = c .before .before in
+    let b = c .before in
     let a = b .before .before in
-    let (f, t, r) = clear (c .before .before .before .before .before .before .before .before .before .before) in
-    rw (f, t, r, ap not (sym (a .before .suits .ensures)) ∙ a .if4 .left, ap not (sym (b .before .suits2 .ensures)) ∙ b .if5 .left)
+    let (f, t, r) = clear (c .before .before .before .before .before .before .before) in
+    c .channel-taken .ensures
+    ∙ rw (f, t, r, ap not (sym (a .before .suits .ensures)) ∙ a .if4 .left, ap not (sym (b .before .suits2 .ensures)) ∙ b .if5 .left)
 
 pub channel-listed-spec : {M : Type 1} → statement M
 channel-listed-spec =
@@ -66,4 +67,4 @@ channel-listed-spec =
     (λ c κs. search needs) returns-3
     (λ c. search needs) (λ c. search needs) (λ c. search needs) (λ c. search needs) (λ c κs. search needs) (λ c κs. search needs) returns-4
     (λ c κs. search needs) (λ c κs. search needs) returns-5
-    (λ c. search needs) (λ c. search needs) (λ c. search needs) returns-6)
+    (λ c κs. search needs) returns-6)
