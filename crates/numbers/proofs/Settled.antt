@@ -9,6 +9,8 @@ use Rattle.numbers.proofs.bits.has.Kinds as has-kinds
 use Rattle.numbers.proofs.bits.has.Reads as has
 use Rattle.numbers.proofs.bits.with.Kinds as with-kinds
 use Rattle.numbers.proofs.bits.with.Reads as with
+use Rattle.numbers.proofs.bits.without.Kinds as without-kinds
+use Rattle.numbers.proofs.bits.without.Reads as without
 use Rattle.numbers.proofs.bits.within.Kinds as within-kinds
 use Rattle.numbers.proofs.bits.within.Reads as within
 use Rattle.numbers.proofs.bits.size.Kinds as size-kinds
@@ -31,6 +33,9 @@ has-settled κs a x y s t p q = decides-unique x y p q
 
 with-settled : Settles 0 with-kinds.ps with-kinds.r with.Post
 with-settled κs a x y s t p q = p ∙ sym q
+
+without-settled : Settles 0 without-kinds.ps without-kinds.r without.Post
+without-settled κs a x y s t p q = p ∙ sym q
 
 within-settled : Settles 0 within-kinds.ps within-kinds.r within.Post
 within-settled κs a x y s t p q = decides-unique x y p q

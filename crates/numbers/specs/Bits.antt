@@ -1,8 +1,9 @@
 -- The binary places of a number as a set of numbers, and the laws of `&`, `|`, shift and the count of ones.
 use mathlib.Core.Path.{_≡_, refl, sym, ap, _∙_}
+use mathlib.Core.Bool.{Bool}
 use mathlib.Core.Logic.{_⊎_, inl, inr, ⊎-elim, _↔_}
-use Prim.Native.Nat.{ℕ, zero, suc, _+_, _/_, _%_, _*_, _^_, _<_, _≤_, min, max, zero-le, suc-le-suc}
-use native.Mathlib.Nat.{pow-suc, not-suc-le-zero, le-of-suc-le-suc, div-one, add-comm}
+use Prim.Native.Nat.{ℕ, zero, suc, _+_, _-_, _/_, _%_, _*_, _^_, _<_, _≤_, min, max, zero-le, suc-le-suc}
+use native.Mathlib.Nat.{pow-suc, not-suc-le-zero, le-of-suc-le-suc, div-one, add-comm, zero-mul, one-mul, sub-zero}
 use native.Mathlib.Numerals.{add-one}
 use native.Mathlib.Omega.{arith}
 use native.Mathlib.Decide.{decLt, ℕ-discrete}
@@ -10,6 +11,8 @@ use lib.Arith.{digits-div, digits-mod, lt-one}
 use lib.Pow.{shr-shr}
 use lib.Count.{ones, onesIn, ones-step}
 use lib.Bits.{bitAnd, bitOr, and-step, or-step, and-le-l}
+use lib.Dec.{eqb}
+use Rattle.numbers.specs.Decides.{Decides, decides-unique, decides-eqb}
 use Rattle.numbers.specs.Sum.{sum}
 
 -- place i of the number m in base two: 0 or 1
@@ -20,6 +23,10 @@ bit m (suc i) = bit (m / 2) i
 -- the set m has i
 abbrev pub Has : ℕ → ℕ → Type 0
 Has m i = bit m i ≡ 1
+
+-- whether it has
+abbrev pub hasb : ℕ → ℕ → Bool
+hasb m i = eqb (bit m i) 1
 
 -- every number that a has, b has
 abbrev pub Within : ℕ → ℕ → Type 0
@@ -33,6 +40,10 @@ size k m = sum (bit m) k
 abbrev pub adding : ℕ → ℕ → ℕ
 adding m i = bitOr m (2 ^ i)
 
+-- the set m without i
+abbrev pub removing : ℕ → ℕ → ℕ
+removing m i = m - bit m i * 2 ^ i
+
 pub bit-lt : (m i : ℕ) → bit m i < 2
 unfolding bit
 bit-lt m zero = omega arith
@@ -44,6 +55,13 @@ has-or-not m i = go (bit m i) (bit-lt m i)
     go : (b : ℕ) → b < 2 → (b ≡ 1) ⊎ (b ≡ 0)
     go zero h = inr refl
     go (suc b) h = inl (omega arith)
+
+-- an answer to whether a set has a number is that test
+pub has-is : (m i : ℕ) (r : Bool) → Decides (Has m i) r → hasb m i ≡ r
+has-is m i r d = decides-unique (hasb m i) r (decides-eqb (bit m i) 1 ((λ h. h), (λ h. h))) d
+
+pub lacks : (m i : ℕ) → (Has m i → ⊥) → bit m i ≡ 0
+lacks m i n = omega (arith, bit-lt m i, n)
 
 -- a shift brings place i to the lowest
 pub bit-shift : (m i : ℕ) → m / 2 ^ i % 2 ≡ bit m i
@@ -93,6 +111,32 @@ has-adding m i j = (to (ℕ-discrete j i), from)
     from : (j ≡ i) ⊎ Has m j → Has (adding m i) j
     from (inl e) = rw (e, bit-or, bit-pow-same) (omega (arith, bit-lt m i))
     from (inr h) = rw (bit-or, h) (omega (arith, bit-lt (2 ^ i) j))
+
+-- a set that has i, with i taken out
+pub has-pow : (m i : ℕ) → Has m i → 2 ^ i ≤ m
+unfolding bit
+has-pow m zero h = omega arith
+has-pow m (suc i) h = rw pow-suc (omega (arith, has-pow (m / 2) i h))
+
+taken-same : (m i : ℕ) → Has m i → bit (m - 2 ^ i) i ≡ 0
+unfolding bit
+taken-same m zero h = omega arith
+taken-same m (suc i) h = rw pow-suc (ap (λ (x : ℕ). bit x i) (omega arith) ∙ taken-same (m / 2) i h)
+
+taken-other : (m i j : ℕ) → Has m i → (j ≡ i → ⊥) → bit (m - 2 ^ i) j ≡ bit m j
+unfolding bit
+taken-other m zero zero h n = absurd (n refl)
+taken-other m zero (suc j) h n = ap (λ (x : ℕ). bit x j) (omega arith)
+taken-other m (suc i) zero h n = rw pow-suc (omega (arith, has-pow (m / 2) i h))
+taken-other m (suc i) (suc j) h n = rw pow-suc (ap (λ (x : ℕ). bit x j) (omega arith) ∙ taken-other (m / 2) i j h (λ e. n (ap suc e)))
+
+-- what the set without i has: what it had, but not i
+pub has-removing : (m i j : ℕ) → Has (removing m i) j ↔ ((j ≡ i → ⊥) × Has m j)
+has-removing m i j = go (has-or-not m i)
+  where
+    go : Has m i ⊎ (bit m i ≡ 0) → Has (removing m i) j ↔ ((j ≡ i → ⊥) × Has m j)
+    go (inr z) = rw (z, zero-mul, sub-zero) ((λ (h : Has m j). ((λ e. omega (arith, rw e at h)), h)), (λ h. h .1))
+    go (inl y) = rw (y, one-mul) ((λ (h : Has (m - 2 ^ i) j). let n : j ≡ i → ⊥ = λ e. omega (arith, rw e at h, taken-same m i y) in (n, sym (taken-other m i j y n) ∙ h)), (λ h. taken-other m i j y (h .0) ∙ h .1))
 
 -- two sets below 2 ^ k that have the same numbers are one
 pub bit-ext : (k a b : ℕ) → a < 2 ^ k → b < 2 ^ k → ((i : ℕ) → i < k → bit a i ≡ bit b i) → a ≡ b

@@ -1,5 +1,5 @@
 -- What it is for a flag to answer a question.
-use mathlib.Core.Path.{_≡_, refl}
+use mathlib.Core.Path.{_≡_, refl, sym, subst}
 use mathlib.Core.Bool.{Bool, true, false}
 use mathlib.Core.Logic.{_↔_}
 use Prim.Native.Nat.{ℕ}
@@ -25,3 +25,10 @@ decides-no n = ((λ t. absurd t), (λ p. n p))
 -- a test of equal numbers, for a question that comes to it
 pub decides-eqb : {P : Type 0} (a b : ℕ) → (a ≡ b) ↔ P → Decides P (eqb a b)
 decides-eqb a b i = ((λ t. i .0 (eqb→eq a b t)), (λ p. rw (eq-eqb a b (i .1 p)) tt))
+
+-- what the flag says
+pub decides-true : {P : Type 0} {r : Bool} → Decides P r → r ≡ true → P
+decides-true d e = d .0 (subst T (sym e) tt)
+
+pub decides-false : {P : Type 0} {r : Bool} → Decides P r → r ≡ false → P → ⊥
+decides-false d e p = subst T e (d .1 p)

@@ -2,6 +2,7 @@
 pub mod Extreme
 pub mod Decides
 pub mod Every
+pub mod Tab
 pub mod Sum
 pub mod Common
 pub mod Euclid
@@ -9,3 +10,5 @@ pub mod Multiples
 pub mod Quotient
 pub mod Bits
 pub mod Fraction
+pub mod Reckoned
+pub mod Lowest

@@ -1,7 +1,7 @@
 // A u16 as a set of the numbers below 16.
 ghost use mathlib.Core.Path.{_≡_};
 ghost use Prim.Native.Nat.{_<_};
-ghost use Rattle.numbers.specs.Bits.{Has, Within, size as sizeOf, adding};
+ghost use Rattle.numbers.specs.Bits.{Has, Within, size as sizeOf, adding, removing};
 ghost use Rattle.numbers.specs.Decides.{Decides};
 
 // Whether the set has i.
@@ -20,6 +20,14 @@ pub fn with(set: u16, i: usize) -> u16
     ensures { λ r. ⌜ r ≡ adding set i ⌝ }
 {
     set | (1u16 << i)
+}
+
+// The set without i.
+pub fn without(set: u16, i: usize) -> u16
+    requires { ⌜ i < 16 ⌝ }
+    ensures { λ r. ⌜ r ≡ removing set i ⌝ }
+{
+    if has(set, i) { set - (1u16 << i) } else { set }
 }
 
 // Whether every number that a has, b has.

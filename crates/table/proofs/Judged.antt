@@ -1,6 +1,6 @@
 -- The reader's judgement of a row after rows that passed is that of refusals 3, 4 and 5. Assumes nothing.
 use mathlib.Core.Path.{_≡_, refl, sym, ap, subst, _∙_}
-use mathlib.Core.Bool.{Bool, true, false, _&&_, not}
+use mathlib.Core.Bool.{Bool, true, false, _&&_, not, cond}
 use mathlib.Core.List.{List, [], _∷_, _++_, List·Memᴰ, List·Memᴰ·head, List·Memᴰ·tail}
 use mathlib.Core.Logic.{_⊎_, inl, inr, _↔_}
 use Prim.Native.Nat.{ℕ, zero, suc, _+_, _-_, _≤_, _<_}
@@ -11,17 +11,16 @@ use lib.ListN.{length, getD, set, take, replicate, length-set, length-replicate,
 use lib.Seq.{getD-set-same, getD-set-other}
 use borrow.Author.Tests.{eq-eqb, ne-eqb, eqb-true, eqb-false, leb-true, leb-false}
 use Rattle.numbers.specs.Every.{Every}
-use Rattle.numbers.specs.Bits.{bit, Has}
+use Rattle.numbers.specs.Bits.{bit, Has, hasb}
 use Rattle.terms.specs.Limits.{MODES, ACTORS, CHANNELS, PHASES}
 use Rattle.graph.specs.declared.shape.Actor.{Actor}
 use Rattle.graph.specs.declared.shape.Mode.{Mode}
 use Rattle.graph.specs.Shape.{noActor, actorAt, modeAt, withActor, withChannel}
 use Rattle.table.specs.declared.row.Listing.{Listing}
-use Rattle.table.specs.Bytes.{pick}
 use Rattle.table.specs.Rows.{Row, actor, channel, Between, InRange, Lists, Listed, channels, Unfit, Refused3, Refused4, Refused5, Passes}
 use Rattle.table.specs.Told.{padded, tableOf}
 use Rattle.table.specs.Digits.{rates, ratesIn}
-use Rattle.table.specs.Judge.{row, lineOf, refusal, hasb, zeros, suitsb, actorListed, channelListed, listed, homesOf, judged}
+use Rattle.table.specs.Judge.{row, lineOf, refusal, zeros, suitsb, actorListed, channelListed, listed, homesOf, judged}
 use Rattle.table.proofs.Lookup.{Passed, start, then, Holds, holds, lists-cons}
 
 -- where an actor was last listed
@@ -178,7 +177,7 @@ module _ {rs : List Row} (passed : Passed rs) where
       not-listed e l = eqb-false _ 1 e (g .has m a (i .0) (i .1) .1 l)
 
       go : (x y z : Bool) → hasb (M .active) (a - 1) ≡ x → eqb home 0 ≡ y → eqb home c ≡ z
-          → Verdict rs (actor m a p w c) ((pick x (refusal 3 M) (pick (not y && not z) (refusal 4 M) ok)) .number)
+          → Verdict rs (actor m a p w c) ((cond x (refusal 3 M) (cond (not y && not z) (refusal 4 M) ok)) .number)
       go true y z e f k = third (g .has m a (i .0) (i .1) .0 (eqb-true _ 1 e))
       go false true z e f k = passes (not-listed e, stays (inl (eqb-true home 0 f)), λ q. q)
       go false false true e f k = passes (not-listed e, stays (inr (eqb-true home c k)), λ q. q)
@@ -237,7 +236,7 @@ module _ {rs : List Row} (passed : Passed rs) where
       go : (x y z v w : Bool) → hasb (M .active) (f - 1) ≡ x → hasb (M .active) (u - 1) ≡ y → leb CHANNELS (M .count) ≡ z
           → suitsb (ratesIn (rates ps)) (actorAt M (f - 1) .phases) ≡ v → suitsb (ratesIn (rates cs)) (actorAt M (u - 1) .phases) ≡ w
           → Verdict rs r
-          ((pick (not x) (refusal 3 M) (pick (not y) (refusal 3 M) (pick z (refusal 3 M) (pick (not v) (refusal 5 M) (pick (not w) (refusal 5 M) ok))))) .number)
+          ((cond (not x) (refusal 3 M) (cond (not y) (refusal 3 M) (cond z (refusal 3 M) (cond (not v) (refusal 5 M) (cond (not w) (refusal 5 M) ok))))) .number)
       go false y z v w e k o s t = third (inl (end-missing f (i .1) e))
       go true false z v w e k o s t = third (inr (inl (end-missing u (i .2) k)))
       go true true true v w e k o s t = third (inr (inr (omega (arith, g .count m (i .0), leb-true CHANNELS (M .count) o))))

@@ -1,6 +1,6 @@
 -- What the reader of rows leans on: the tests of its models, the fields of a record, and what is read in them. Assumes nothing.
 use mathlib.Core.Path.{_≡_, refl, sym, ap, _∙_}
-use mathlib.Core.Bool.{Bool, true, false, not, _&&_}
+use mathlib.Core.Bool.{Bool, true, false, not, _&&_, cond}
 use mathlib.Core.List.{List, [], _∷_, map}
 use Prim.Native.Nat.{ℕ, zero, suc, _+_, _≤_, zero-le}
 use native.Mathlib.Numerals.{add-one}
@@ -8,30 +8,25 @@ use native.Mathlib.Omega.{arith}
 use borrow.Author.Tests.{ltb-false}
 use lib.Dec.{eqb, ltb}
 use lib.ListN.{length, getD, drop, drop-of-length-le, List·getD-map}
-use Rattle.numbers.specs.Bits.{bit, Has}
-use Rattle.numbers.specs.Decides.{Decides, decides-unique, decides-eqb}
+use Rattle.numbers.specs.Bits.{Has, hasb, has-is}
+use Rattle.numbers.specs.Decides.{Decides}
 use Rattle.numbers.specs.Every.{Every}
 use Rattle.table.specs.declared.number.Number.{Number}
 use Rattle.table.specs.declared.number.Number.the-variants.{Is, Bad}
 use Rattle.table.specs.declared.record.Cell.{Cell as Span}
 use Rattle.table.specs.declared.rates.Rates.{Rates}
-use Rattle.table.specs.Bytes.{pick}
 use Rattle.table.specs.Scan.{bytesOf, InText}
 use Rattle.table.specs.Digits.{numberOf, written, onNumber, RateList, rates, none as noRates, onRates, ratesOf, ratesIn}
-use Rattle.table.specs.Judge.{none, fieldAt, hasb, zeros}
+use Rattle.table.specs.Judge.{none, fieldAt, zeros}
 
--- an answer to whether a set has a place is the model's test
-pub has-is : (m i : ℕ) (r : Bool) → Decides (Has m i) r → hasb m i ≡ r
-has-is m i r d = decides-unique (hasb m i) r (decides-eqb (bit m i) 1 ((λ h. h), (λ h. h))) d
-
--- the same of a test that it has not
+-- an answer to whether a set has a place is the model's test that it has not
 pub lacks-is : (m i : ℕ) (r : Bool) → Decides (Has m i) r → not (hasb m i) ≡ not r
 lacks-is m i r d = ap not (has-is m i r d)
 
 -- a test between two that are the same
-pub pick-same : {A : Type 0} (b : Bool) (x : A) → pick b x x ≡ x
-pick-same true x = refl
-pick-same false x = refl
+pub cond-same : {A : Type 0} (b : Bool) (x : A) → cond b x x ≡ x
+cond-same true x = refl
+cond-same false x = refl
 
 -- where a field of a record stands
 abbrev pub cellAt : List Span → ℕ → Span
@@ -73,7 +68,7 @@ rates-good s r e t = go (ratesOf s) e
     go noRates e = let z : _≡_ {A = ℕ} 0 1 = cc in absurd (omega arith)
 
 -- of a test that refuses: it failed, and what is behind it is the number
-picked : (b : Bool) (x : Number) (n : ℕ) → pick b Bad x ≡ Is n → (b ≡ false) × (x ≡ Is n)
+picked : (b : Bool) (x : Number) (n : ℕ) → cond b Bad x ≡ Is n → (b ≡ false) × (x ≡ Is n)
 picked true x n e = let z : _≡_ {A = ℕ} 0 1 = cc in absurd (omega arith)
 picked false x n e = (refl, e)
 
@@ -82,7 +77,7 @@ pub number-least : (s : List ℕ) (least most n : ℕ) (r : Number) → r ≡ nu
 unfolding numberOf
 number-least s least most n r d e = go (written s) (sym d ∙ e)
   where
-    go : (x : Number) → onNumber x (λ v. pick (ltb most v) Bad (pick (ltb v least) Bad (Is v))) Bad ≡ Is n → least ≤ n
+    go : (x : Number) → onNumber x (λ v. cond (ltb most v) Bad (cond (ltb v least) Bad (Is v))) Bad ≡ Is n → least ≤ n
     go (Is v) e =
         let (m, f) = picked (ltb most v) _ n e in
         let (l, g) = picked (ltb v least) _ n f in

@@ -1,6 +1,6 @@
 -- The table of some rows holds what they list. Assumes nothing.
 use mathlib.Core.Path.{_≡_, refl, sym, ap, subst, _∙_}
-use mathlib.Core.Bool.{Bool, true, false, _&&_, not}
+use mathlib.Core.Bool.{Bool, true, false, _&&_, not, cond}
 use mathlib.Core.List.{List, [], _∷_, List·Memᴰ, List·Memᴰ·head, List·Memᴰ·tail}
 use mathlib.Core.Logic.{_⊎_, inl, inr, _↔_}
 use Prim.Native.Nat.{ℕ, zero, suc, _+_, _-_, _≤_, _<_}
@@ -16,7 +16,6 @@ use Rattle.graph.specs.declared.shape.Actor.{Actor}
 use Rattle.graph.specs.declared.shape.Mode.{Mode}
 use Rattle.graph.specs.declared.shape.Table.{Table}
 use Rattle.graph.specs.Shape.{noActor, noMode, emptyChannel, emptyMode, emptyTable, actorAt, modeAt, withActor, withChannel, withMode}
-use Rattle.table.specs.Bytes.{pick}
 use Rattle.table.specs.Rows.{Row, actor, channel, Between, InRange, Lists, Listed, channels, Refused3, Refused4, Refused5, Passes}
 use Rattle.table.specs.Told.{padded, listing, tableOf}
 use Rattle.table.specs.Judge.{homesOf}
@@ -188,7 +187,7 @@ module _ (rs : List Row) (t : Table) (g : Holds rs t) (m f u : ℕ) (ps cs : Lis
   unfolding channels t″ now-is was
   channel-count n hn = go (ℕ-discrete m n)
     where
-      go : Dec (m ≡ n) → modeAt t″ (n - 1) .count ≡ pick (eqb m n) (channels rs n + 1) (channels rs n)
+      go : Dec (m ≡ n) → modeAt t″ (n - 1) .count ≡ cond (eqb m n) (channels rs n + 1) (channels rs n)
       go (yes e) =
           rw (eq-eqb m n e)
           (ap (λ (i : ℕ). modeAt t″ (i - 1) .count) (sym e) ∙ ap (λ (M : Mode). M .count) (mode-same t (g .sized) (m - 1) now-is (omega arith))

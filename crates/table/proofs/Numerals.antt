@@ -1,6 +1,6 @@
 -- Laws of the models of numbers and of lists of rates. Assumes nothing.
 use mathlib.Core.Path.{_≡_, refl, ap, sym, _∙_}
-use mathlib.Core.Bool.{Bool, true, false}
+use mathlib.Core.Bool.{Bool, true, false, cond}
 use mathlib.Core.List.{List, [], _∷_, _++_, append-assoc}
 use mathlib.Core.Logic.{_⊎_, inl, inr}
 use Prim.Native.Nat.{ℕ, zero, suc, _+_, _-_, _*_, _≤_, _<_}
@@ -15,7 +15,6 @@ use Rattle.table.specs.declared.number.Number.{Number}
 use Rattle.table.specs.declared.number.Number.the-variants.{Is, Bad}
 use Rattle.table.specs.declared.number.Digit.{Digit}
 use Rattle.table.specs.declared.number.Digit.the-variants.{Of, Other}
-use Rattle.table.specs.Bytes.{pick}
 use Rattle.table.specs.Told.{padded}
 use Rattle.table.specs.Digits.{digitOf, onDigit, digits, written, onNumber, numberOf}
 use Rattle.table.specs.Digits.{wordLen, RateList, rates, none, ahead, onRest, ratesFrom, ratesOf, ratesIn}
@@ -24,14 +23,14 @@ pub digit-small : (b d : ℕ) → Of d ≡ digitOf b → d ≤ 9
 unfolding digitOf
 digit-small b d = go (ltb b 48) (ltb b 58) refl
   where
-    go : (x y : Bool) → ltb b 58 ≡ y → Of d ≡ pick x Other (pick y (Of (b - 48)) Other) → d ≤ 9
+    go : (x y : Bool) → ltb b 58 ≡ y → Of d ≡ cond x Other (cond y (Of (b - 48)) Other) → d ≤ 9
     go true y e h = let z : _≡_ {A = ℕ} 0 1 = cc in omega arith
     go false true e h = let q : d ≡ b - 48 = cc in omega (arith, ltb-true b 58 e)
     go false false e h = let z : _≡_ {A = ℕ} 0 1 = cc in omega arith
 
 -- a number, where it is from least to most
 abbrev pub ranged : ℕ → ℕ → Number → Number
-ranged least most x = onNumber x (λ n. pick (ltb most n) Bad (pick (ltb n least) Bad (Is n))) Bad
+ranged least most x = onNumber x (λ n. cond (ltb most n) Bad (cond (ltb n least) Bad (Is n))) Bad
 
 -- what is above the most is so with more digits
 pub above : (s : List ℕ) (v least most : ℕ) → most < v → ranged least most (digits s v) ≡ Bad
@@ -68,7 +67,7 @@ module _ (least most : ℕ) where
   ranged-in : (x : Number) (n : ℕ) → Is n ≡ ranged least most x → (least ≤ n) × (n ≤ most)
   ranged-in (Is m) n h = go (ltb most m) (ltb m least) refl refl h
     where
-      go : (a b : Bool) → ltb most m ≡ a → ltb m least ≡ b → Is n ≡ pick a Bad (pick b Bad (Is m)) → (least ≤ n) × (n ≤ most)
+      go : (a b : Bool) → ltb most m ≡ a → ltb m least ≡ b → Is n ≡ cond a Bad (cond b Bad (Is m)) → (least ≤ n) × (n ≤ most)
       go true b e f h = let z : _≡_ {A = ℕ} 0 1 = cc in omega arith
       go false true e f h = let z : _≡_ {A = ℕ} 0 1 = cc in omega arith
       go false false e f h = let q : n ≡ m = cc in omega (arith, ltb-false most m e, ltb-false m least f)
@@ -85,7 +84,7 @@ module _ (s : List ℕ) (least most i v : ℕ) (so-far : numberOf s least most �
   unfolding digits
   number-next l e = so-far ∙ rw (e, add-one, drop-cons s i 0 l)
 
-  pub number-end : length s ≤ i → v ≤ most → numberOf s least most ≡ pick (ltb v least) Bad (Is v)
+  pub number-end : length s ≤ i → v ≤ most → numberOf s least most ≡ cond (ltb v least) Bad (Is v)
   unfolding digits
   number-end l h = so-far ∙ rw (drop-of-length-le s l, le-ltb most v h)
 
@@ -108,7 +107,7 @@ unfolding wordLen
 word-within [] = omega arith
 word-within (b ∷ t) = go (eqb b 32) (word-within t)
   where
-    go : (x : Bool) → wordLen t ≤ length t → pick x 0 (suc (wordLen t)) ≤ suc (length t)
+    go : (x : Bool) → wordLen t ≤ length t → cond x 0 (suc (wordLen t)) ≤ suc (length t)
     go true h = omega arith
     go false h = omega arith
 

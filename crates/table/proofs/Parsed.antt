@@ -1,6 +1,6 @@
 -- The row that a record's fields list is the one row in range with their contents. Assumes nothing.
 use mathlib.Core.Path.{_≡_, refl, sym, ap, ap₂, subst, _∙_}
-use mathlib.Core.Bool.{Bool, true, false, _&&_}
+use mathlib.Core.Bool.{Bool, true, false, _&&_, cond}
 use mathlib.Core.List.{List, [], _∷_, _++_}
 use mathlib.Core.Logic.{_↔_}
 use Prim.Native.Nat.{ℕ, zero, suc, _≤_, _<_}
@@ -13,7 +13,6 @@ use Rattle.terms.specs.Limits.{MODES, ACTORS, PHASES, MOST-WCET, PROCESSORS}
 use Rattle.table.specs.declared.number.Number.{Number}
 use Rattle.table.specs.declared.number.Number.the-variants.{Is, Bad}
 use Rattle.table.specs.declared.row.Kind.the-variants.{Actor, Channel, Bad as Neither}
-use Rattle.table.specs.Bytes.{pick}
 use Rattle.table.specs.Grammar.{Inside, nothing, byte, pair, Begins}
 use Rattle.table.specs.Decimal.{decimal, spaced}
 use Rattle.table.specs.Rows.{Row, actor, channel, Rates, InRange, contents, actorWord, channelWord}
@@ -159,7 +158,7 @@ module _ {raws cs : List (List ℕ)} (all : All raws cs) (long : length cs ≡ 6
   parsed-says r = go (same (fieldAt raws 0) actorWord) (same (fieldAt raws 0) channelWord) refl refl
     where
       go : (x y : Bool) → same (fieldAt raws 0) actorWord ≡ x → same (fieldAt raws 0) channelWord ≡ y
-          → byKind (pick x Actor (pick y Channel Neither)) (actorOf raws) (channelOf raws) none ≡ row r
+          → byKind (cond x Actor (cond y Channel Neither)) (actorOf raws) (channelOf raws) none ≡ row r
           → Says cs r
       go true y e f q = actor-says r (same-true (fieldAt raws 0) actorWord e) q
       go false true e f q = channel-says r (same-true (fieldAt raws 0) channelWord f) q

@@ -1,6 +1,6 @@
 -- What holds before each row of the text that is read. Assumes nothing.
 use mathlib.Core.Path.{_≡_, refl, sym, ap, ap₂, subst, _∙_}
-use mathlib.Core.Bool.{Bool, true, false, _&&_, not}
+use mathlib.Core.Bool.{Bool, true, false, _&&_, not, cond}
 use mathlib.Core.List.{List, [], _∷_, map}
 use Prim.Native.Nat.{ℕ, zero, suc, _+_, _-_, _≤_, _<_}
 use native.Mathlib.Omega.{arith}
@@ -17,12 +17,12 @@ use Rattle.table.specs.declared.Reading.{Reading}
 use Rattle.table.specs.declared.record.Record.{Record}
 use Rattle.table.specs.declared.row.Line.{Line}
 use Rattle.table.specs.declared.row.Listing.{Listing}
-use Rattle.table.specs.Bytes.{pick}
 use Rattle.table.specs.Rows.{Row, actor, channel, InRange}
 use Rattle.table.specs.Told.{Outcome, rows, refused, padded, listing, tableOf, readingOf, Told}
 use Rattle.table.specs.Digits.{rates, ratesIn}
 use Rattle.table.specs.Scan.{Cells, got, bad, cellsFrom, bytesOf, InText, RecordIs, Good}
-use Rattle.table.specs.Judge.{Parsed, row, none, parsedOf, lineOf, refusal, hasb, suitsb, actorListed, channelListed, listed, homesOf, judged, onCells, onParsed, readFrom, readOf}
+use Rattle.numbers.specs.Bits.{hasb}
+use Rattle.table.specs.Judge.{Parsed, row, none, parsedOf, lineOf, refusal, suitsb, actorListed, channelListed, listed, homesOf, judged, onCells, onParsed, readFrom, readOf}
 use Rattle.table.proofs.Records.{RecordedAt, cells-recorded}
 use Rattle.table.proofs.Parsed.{Says, parsed-says}
 use Rattle.table.proofs.Lookup.{Passed, start, then}
@@ -82,8 +82,8 @@ actor-taken M home l = go (hasb (M .active) (l .actor)) (not (eqb home 0) && not
     ok : Listing
     ok = record { number = 0; home = l .is .processor; mode = withActor M (l .actor) (l .is) }
 
-    go : (x y : Bool) → (pick x (refusal 3 M) (pick y (refusal 4 M) ok)) .number ≡ 0
-        → ((pick x (refusal 3 M) (pick y (refusal 4 M) ok)) .mode ≡ withActor M (l .actor) (l .is)) × ((pick x (refusal 3 M) (pick y (refusal 4 M) ok)) .home ≡ l .is .processor)
+    go : (x y : Bool) → (cond x (refusal 3 M) (cond y (refusal 4 M) ok)) .number ≡ 0
+        → ((cond x (refusal 3 M) (cond y (refusal 4 M) ok)) .mode ≡ withActor M (l .actor) (l .is)) × ((cond x (refusal 3 M) (cond y (refusal 4 M) ok)) .home ≡ l .is .processor)
     go true y e = absurd (omega arith)
     go false true e = absurd (omega arith)
     go false false e = (refl, refl)
@@ -103,7 +103,7 @@ channel-taken M home l =
     ok = record { number = 0; home = home; mode = after }
 
     end : Bool → Bool → Bool → Bool → Bool → Listing
-    end x y z v w = pick x (refusal 3 M) (pick y (refusal 3 M) (pick z (refusal 3 M) (pick v (refusal 5 M) (pick w (refusal 5 M) ok))))
+    end x y z v w = cond x (refusal 3 M) (cond y (refusal 3 M) (cond z (refusal 3 M) (cond v (refusal 5 M) (cond w (refusal 5 M) ok))))
 
     go : (x y z v w : Bool) → end x y z v w .number ≡ 0 → (end x y z v w .mode ≡ after) × (end x y z v w .home ≡ home)
     go true y z v w e = absurd (omega arith)

@@ -1,6 +1,6 @@
 -- The record reader's model finds the records of the grammar, and no others. Assumes nothing.
 use mathlib.Core.Path.{_≡_, refl, sym, ap, ap₂, subst, _∙_}
-use mathlib.Core.Bool.{Bool, true, false}
+use mathlib.Core.Bool.{Bool, true, false, cond}
 use mathlib.Core.List.{List, [], _∷_, _++_, append-assoc, append-nil}
 use mathlib.Core.Logic.{_⊎_, inl, inr}
 use Prim.Native.Nat.{ℕ, zero, suc, _+_, _-_, _≤_, _<_}
@@ -14,7 +14,7 @@ use borrow.Author.Tests.{eqb-true, lt-ltb}
 use Rattle.numbers.specs.Every.{Every}
 use Rattle.table.specs.declared.bytes.Class.{Class}
 use Rattle.table.specs.declared.bytes.Class.the-variants.{Text, Comma, Quote, Return, Feed, Other, Nothing}
-use Rattle.table.specs.Bytes.{pick, classOf, classAt}
+use Rattle.table.specs.Bytes.{classOf, classAt}
 use Rattle.table.specs.Grammar.{Inner, Inside, nothing, byte, pair, Field, plain, quoted, Record, one, more, Begins, ended, last}
 use Rattle.table.specs.Scan.{byClass, plainLen, Closed, after, never, further, inner, second, closed, Cut, cut, none, closedCut, plainCut, cellOf, Rest, to, stop, pastComma, pastReturn, pastEnd, pastAt, Cells, got, bad, onCut, onRest, ahead, cellsFrom}
 
@@ -37,7 +37,7 @@ unfolding classOf
 byte-of b = go (eqb b 44) (eqb b 34) (eqb b 13) (eqb b 10) (ltb b 32) (ltb b 127) refl refl refl refl
   where
     go : (s t u v w x : Bool) → eqb b 44 ≡ s → eqb b 34 ≡ t → eqb b 13 ≡ u → eqb b 10 ≡ v
-        → Byte (pick s Comma (pick t Quote (pick u Return (pick v Feed (pick w Other (pick x Text Other)))))) b
+        → Byte (cond s Comma (cond t Quote (cond u Return (cond v Feed (cond w Other (cond x Text Other)))))) b
     go true t u v w x e f g h = eqb-true b 44 e
     go false true u v w x e f g h = eqb-true b 34 f
     go false false true v w x e f g h = eqb-true b 13 g

@@ -1,6 +1,6 @@
 -- The rows of a proper table pass, and their table is that table. Assumes nothing.
 use mathlib.Core.Path.{_≡_, refl, sym, ap, subst, _∙_}
-use mathlib.Core.Bool.{Bool, true, false}
+use mathlib.Core.Bool.{Bool, true, false, cond}
 use mathlib.Core.List.{List, [], _∷_, _++_}
 use mathlib.Core.Logic.{_⊎_, inl, inr, _↔_}
 use Prim.Native.Nat.{ℕ, zero, suc, _+_, _-_, _^_, _≤_, _<_}
@@ -23,7 +23,6 @@ use Rattle.graph.specs.declared.shape.Mode.{Mode}
 use Rattle.graph.specs.declared.shape.Table.{Table}
 use Rattle.graph.specs.Shape.{noActor, noChannel, noMode, emptyChannel, emptyMode, actorAt, channelAt, modeAt, withActor, withChannel, withMode}
 use Rattle.graph.specs.Proper.{ProperRates, ProperChannel, ProperMode, ProperTable}
-use Rattle.table.specs.Bytes.{pick}
 use Rattle.table.specs.Rows.{Row, actor, channel, Between, Rates, InRange, Lists, Listed, channels, Unfit, Refused3, Refused5, Passes}
 use Rattle.table.specs.Told.{padded, listing, tableOf}
 use Rattle.table.specs.Writing.{actorRow, channelRow, actorRows, channelRows, modeRows, rowsOf}
@@ -64,7 +63,7 @@ module _ {A : Type 0} (n : ℕ) (e d : A) (l : List A) (long : length l ≡ n) w
 -- the places below i of a set
 low : ℕ → ℕ → ℕ
 low a zero = 0
-low a (suc i) = pick (eqb (bit a i) 1) (adding (low a i) i) (low a i)
+low a (suc i) = cond (eqb (bit a i) 1) (adding (low a i) i) (low a i)
 
 -- what those places have, and how small they are
 has-low : (a i j : ℕ) → Has (low a i) j ↔ ((j < i) × Has a j)
@@ -72,7 +71,7 @@ unfolding low
 has-low a zero j = (λ h. absurd (omega (arith, bit-zero j)), λ h. absurd (omega (arith, h .0)))
 has-low a (suc i) j = go (eqb (bit a i) 1) refl (has-low a i j)
   where
-    go : (x : Bool) → eqb (bit a i) 1 ≡ x → (Has (low a i) j ↔ ((j < i) × Has a j)) → Has (pick x (adding (low a i) i) (low a i)) j ↔ ((j < suc i) × Has a j)
+    go : (x : Bool) → eqb (bit a i) 1 ≡ x → (Has (low a i) j ↔ ((j < i) × Has a j)) → Has (cond x (adding (low a i) i) (low a i)) j ↔ ((j < suc i) × Has a j)
     go true e ih = ((λ h. to (has-adding (low a i) i j .0 h)), λ h. has-adding (low a i) i j .1 (from (ℕ-discrete j i) h))
       where
         to : (j ≡ i) ⊎ Has (low a i) j → (j < suc i) × Has a j
@@ -93,7 +92,7 @@ unfolding low
 low-lt a zero = omega arith
 low-lt a (suc i) = go (eqb (bit a i) 1) (low-lt a i) (pow-lt (le-refl (suc i)))
   where
-    go : (x : Bool) → low a i < 2 ^ i → 2 ^ i < 2 ^ suc i → pick x (adding (low a i) i) (low a i) < 2 ^ suc i
+    go : (x : Bool) → low a i < 2 ^ i → 2 ^ i < 2 ^ suc i → cond x (adding (low a i) i) (low a i) < 2 ^ suc i
     go true h p = or-lt (suc i) (low a i) (2 ^ i) (omega arith) p
     go false h p = omega arith
 
@@ -263,7 +262,7 @@ module _ (t : Table) (g : ProperTable t) (m : ℕ) (hm : m < MODES) where
   actor-stages (suc i) {rs} h s = go (eqb (bit (M .active) i) 1) refl (actor-stages i (omega arith) s)
     where
       go : (x : Bool) → eqb (bit (M .active) i) 1 ≡ x → Stage t m (part M i 0) (actorRows m M i ++ rs)
-          → Stage t m (part M (suc i) 0) (pick x (actorRow m i (actorAt M i) ∷ actorRows m M i) (actorRows m M i) ++ rs)
+          → Stage t m (part M (suc i) 0) (cond x (actorRow m i (actorAt M i) ∷ actorRows m M i) (actorRows m M i) ++ rs)
       go true e s = stage-actor i h (eqb-true (bit (M .active) i) 1 e) s
       go false e s = rw (← part-skip M gM i 0 h (eqb-false (bit (M .active) i) 1 e)) s
 

@@ -1,6 +1,6 @@
 -- The text of a proper table is some bytes, and no more than the longest text has. Assumes nothing.
 use mathlib.Core.Path.{_≡_, refl}
-use mathlib.Core.Bool.{Bool, true, false}
+use mathlib.Core.Bool.{Bool, true, false, cond}
 use mathlib.Core.List.{List, [], _∷_, _++_}
 use Prim.Native.Nat.{ℕ, zero, suc, _+_, _*_, _/_, _%_, _^_, _≤_, _<_}
 use native.Mathlib.Nat.{pow-suc, le-refl}
@@ -14,7 +14,6 @@ use Rattle.graph.specs.declared.shape.Mode.{Mode}
 use Rattle.graph.specs.declared.shape.Table.{Table}
 use Rattle.graph.specs.Shape.{actorAt, channelAt, modeAt}
 use Rattle.graph.specs.Proper.{ProperMode, ProperTable}
-use Rattle.table.specs.Bytes.{pick}
 use Rattle.table.specs.Decimal.{decimalFrom, decimal, spaced}
 use Rattle.table.specs.Rows.{Row, actor, channel, Rates, InRange, contents}
 use Rattle.table.specs.Writing.{joined, lineText, textOf, actorRow, channelRow, actorRows, channelRows, modeRows, rowsOf}
@@ -27,7 +26,7 @@ from-length zero k n h pos = pos
 from-length (suc j) k n h pos = go (ltb n 10) refl k h pos (from-length j)
   where
     go : (x : Bool) → ltb n 10 ≡ x → (k : ℕ) → n < 10 ^ k → 0 < k → ((k n : ℕ) → n < 10 ^ k → 0 < k → length (decimalFrom j n) ≤ k)
-        → length (pick x ((48 + n) ∷ []) (decimalFrom j (n / 10) ++ ((48 + n % 10) ∷ []))) ≤ k
+        → length (cond x ((48 + n) ∷ []) (decimalFrom j (n / 10) ++ ((48 + n % 10) ∷ []))) ≤ k
     go true e k h pos ih = pos
     go false e zero h pos ih = absurd (omega arith)
     go false e (suc zero) h pos ih = absurd (omega (arith, ltb-false n 10 e))
@@ -87,7 +86,7 @@ module _ (m : ℕ) (hm : m < MODES) (M : Mode) (g : ProperMode M) (rs : List Row
   actors-short (suc i) h = go (eqb (bit (M .active) i) 1) refl (actors-short i (omega arith))
     where
       go : (x : Bool) → eqb (bit (M .active) i) 1 ≡ x → length (textOf (actorRows m M i ++ rs)) ≤ length (textOf rs) + 24 * i
-          → length (textOf (pick x (actorRow m i (actorAt M i) ∷ actorRows m M i) (actorRows m M i) ++ rs)) ≤ length (textOf rs) + 24 * suc i
+          → length (textOf (cond x (actorRow m i (actorAt M i) ∷ actorRows m M i) (actorRows m M i) ++ rs)) ≤ length (textOf rs) + 24 * suc i
       go true e ih =
           omega (
             arith,

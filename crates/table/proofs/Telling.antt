@@ -1,6 +1,6 @@
 -- The reader's model tells of a text what the rules tell, and the rules tell one thing. Assumes nothing.
 use mathlib.Core.Path.{_≡_, refl, sym, ap, subst, _∙_}
-use mathlib.Core.Bool.{Bool, true, false}
+use mathlib.Core.Bool.{Bool, true, false, cond}
 use mathlib.Core.List.{List, [], _∷_, _++_}
 use mathlib.Core.Logic.{_⊎_, inl, inr}
 use Prim.Native.Nat.{ℕ, zero, suc, _≤_, _<_}
@@ -10,7 +10,6 @@ use lib.Dec.{eqb, ltb}
 use lib.ListN.{length, length-append}
 use borrow.Author.Tests.{eqb-true, eqb-false, ltb-true, ltb-false, eq-eqb, ne-eqb, lt-ltb, le-ltb}
 use Rattle.terms.specs.Limits.{MOST-BYTES}
-use Rattle.table.specs.Bytes.{pick}
 use Rattle.table.specs.Grammar.{Begins, ended, last}
 use Rattle.table.specs.Rows.{Row, InRange, contents, Passes}
 use Rattle.table.specs.Told.{Outcome, rows, refused, After, done, refused1, refused2, refused3, refused4, refused5, next, Of, wrong-length, right-length}
@@ -31,7 +30,7 @@ begins-shorter (last r) h = h
 
 -- what follows a row that was judged
 abbrev pub onward : ℕ → List Row → Row → List ℕ → ℕ → Outcome
-onward k rs r rest n = pick (eqb n 0) (readFrom k (r ∷ rs) rest) (refused n (suc (length rs)))
+onward k rs r rest n = cond (eqb n 0) (readFrom k (r ∷ rs) rest) (refused n (suc (length rs)))
 
 abbrev pub onRecord : ℕ → List Row → Cells → Outcome
 onRecord k rs x =
@@ -130,7 +129,7 @@ pub reads-of : (t : List ℕ) → Of t (readOf t)
 unfolding readOf
 reads-of t = go (eqb (length t) 0) (ltb MOST-BYTES (length t)) refl refl
   where
-    go : (x y : Bool) → eqb (length t) 0 ≡ x → ltb MOST-BYTES (length t) ≡ y → Of t (pick x (refused 1 0) (pick y (refused 1 0) (readFrom (length t) [] t)))
+    go : (x y : Bool) → eqb (length t) 0 ≡ x → ltb MOST-BYTES (length t) ≡ y → Of t (cond x (refused 1 0) (cond y (refused 1 0) (readFrom (length t) [] t)))
     go true y e f = wrong-length (inl (eqb-true (length t) 0 e))
     go false true e f = wrong-length (inr (ltb-true MOST-BYTES (length t) f))
     go false false e f =

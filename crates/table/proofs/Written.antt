@@ -1,6 +1,6 @@
 -- The readers of numbers and of lists read what is written, and nothing else. Assumes nothing.
 use mathlib.Core.Path.{_≡_, refl, sym, ap, ap₂, subst, _∙_}
-use mathlib.Core.Bool.{Bool, true, false}
+use mathlib.Core.Bool.{Bool, true, false, cond}
 use mathlib.Core.List.{List, [], _∷_, _++_, append-assoc, append-nil}
 use mathlib.Core.Logic.{_↔_}
 use Prim.Native.Nat.{ℕ, zero, suc, _+_, _-_, _*_, _/_, _%_, _≤_, _<_}
@@ -17,7 +17,6 @@ use Rattle.table.specs.declared.number.Number.{Number}
 use Rattle.table.specs.declared.number.Number.the-variants.{Is, Bad}
 use Rattle.table.specs.declared.number.Digit.{Digit}
 use Rattle.table.specs.declared.number.Digit.the-variants.{Of, Other}
-use Rattle.table.specs.Bytes.{pick}
 use Rattle.table.specs.Decimal.{decimalFrom, decimal, spaced}
 use Rattle.table.specs.Rows.{Rates}
 use Rattle.table.specs.Digits.{digitOf, onDigit, digits, written, onNumber, numberOf, wordLen, RateList, rates, none, ahead, onRest, ratesFrom, ratesOf}
@@ -34,7 +33,7 @@ digit-is : (b : ℕ) → DigitIs b (digitOf b)
 unfolding digitOf
 digit-is b = go (ltb b 48) (ltb b 58) refl refl
   where
-    go : (x y : Bool) → ltb b 48 ≡ x → ltb b 58 ≡ y → DigitIs b (pick x Other (pick y (Of (b - 48)) Other))
+    go : (x y : Bool) → ltb b 48 ≡ x → ltb b 58 ≡ y → DigitIs b (cond x Other (cond y (Of (b - 48)) Other))
     go true y e f = tt
     go false true e f = (omega (arith, ltb-false b 48 e), omega (arith, ltb-false b 48 e, ltb-true b 58 f))
     go false false e f = tt
@@ -54,7 +53,7 @@ decimal-steps (suc k) zero n h i = rw (lt-ltb n 10 (omega arith))
 decimal-steps (suc k) (suc j) n h i = go (ltb n 10) refl (decimal-steps k j (n / 10))
   where
     go : (x : Bool) → ltb n 10 ≡ x → (n / 10 ≤ k → n / 10 ≤ j → decimalFrom k (n / 10) ≡ decimalFrom j (n / 10))
-        → pick x ((48 + n) ∷ []) (decimalFrom k (n / 10) ++ ((48 + n % 10) ∷ [])) ≡ pick x ((48 + n) ∷ []) (decimalFrom j (n / 10) ++ ((48 + n % 10) ∷ []))
+        → cond x ((48 + n) ∷ []) (decimalFrom k (n / 10) ++ ((48 + n % 10) ∷ [])) ≡ cond x ((48 + n) ∷ []) (decimalFrom j (n / 10) ++ ((48 + n % 10) ∷ []))
     go true e ih = refl
     go false e ih =
         let l : 10 ≤ n = ltb-false n 10 e in
@@ -115,7 +114,7 @@ written-decimal [] n e = absurd-by (cc)
 written-decimal (b ∷ []) n e = digits-front b [] n (λ q. refl) e
 written-decimal (b ∷ c ∷ s) n e = go (eqb b 48) refl e
   where
-    go : (x : Bool) → eqb b 48 ≡ x → pick x Bad (digits (b ∷ c ∷ s) 0) ≡ Is n → b ∷ c ∷ s ≡ decimal n
+    go : (x : Bool) → eqb b 48 ≡ x → cond x Bad (digits (b ∷ c ∷ s) 0) ≡ Is n → b ∷ c ∷ s ≡ decimal n
     go true f e = absurd-by (cc)
     go false f e = digits-front b (c ∷ s) n (λ q. absurd (eqb-false b 48 f q)) e
 
@@ -126,7 +125,7 @@ digits-decimal zero n s h = let z : n ≡ 0 = omega arith in rw (z, of-digit 0 (
 digits-decimal (suc k) n s h = go (ltb n 10) refl (digits-decimal k (n / 10))
   where
     go : (x : Bool) → ltb n 10 ≡ x → ((s : List ℕ) → n / 10 ≤ k → digits (decimalFrom k (n / 10) ++ s) 0 ≡ digits s (n / 10))
-        → digits (pick x ((48 + n) ∷ []) (decimalFrom k (n / 10) ++ ((48 + n % 10) ∷ [])) ++ s) 0 ≡ digits s n
+        → digits (cond x ((48 + n) ∷ []) (decimalFrom k (n / 10) ++ ((48 + n % 10) ∷ [])) ++ s) 0 ≡ digits s n
     go true e ih = let z : 0 * 10 + n ≡ n = omega arith in rw (of-digit n (ltb-true n 10 e), z)
     go false e ih =
         let l : 10 ≤ n = ltb-false n 10 e in
@@ -147,7 +146,7 @@ unfolding decimalFrom
 decimal-leads zero n pos h = absurd (omega arith)
 decimal-leads (suc k) n pos h = go (ltb n 10) refl (decimal-leads k (n / 10))
   where
-    go : (x : Bool) → ltb n 10 ≡ x → (0 < n / 10 → n / 10 ≤ k → Leads (decimalFrom k (n / 10))) → Leads (pick x ((48 + n) ∷ []) (decimalFrom k (n / 10) ++ ((48 + n % 10) ∷ [])))
+    go : (x : Bool) → ltb n 10 ≡ x → (0 < n / 10 → n / 10 ≤ k → Leads (decimalFrom k (n / 10))) → Leads (cond x ((48 + n) ∷ []) (decimalFrom k (n / 10) ++ ((48 + n % 10) ∷ [])))
     go true e ih = λ q. omega arith
     go false e ih = let l : 10 ≤ n = ltb-false n 10 e in leads-more (decimalFrom k (n / 10)) ((48 + n % 10) ∷ []) (ih (omega arith) (omega arith))
 
@@ -168,19 +167,19 @@ pub number-iff : (s : List ℕ) (least most n : ℕ) → (numberOf s least most 
 unfolding numberOf
 number-iff s least most n = (from (written s) refl, λ w. to (w .0) (w .1) (w .2))
   where
-    ranged : (m : ℕ) (x y : Bool) → ltb most m ≡ x → ltb m least ≡ y → pick x Bad (pick y Bad (Is m)) ≡ Is n → (m ≡ n) × (least ≤ m) × (m ≤ most)
+    ranged : (m : ℕ) (x y : Bool) → ltb most m ≡ x → ltb m least ≡ y → cond x Bad (cond y Bad (Is m)) ≡ Is n → (m ≡ n) × (least ≤ m) × (m ≤ most)
     ranged m true y e f q = absurd-by (cc)
     ranged m false true e f q = absurd-by (cc)
     ranged m false false e f q = (cc, ltb-false m least f, ltb-false most m e)
 
-    from : (x : Number) → written s ≡ x → onNumber x (λ n. pick (ltb most n) Bad (pick (ltb n least) Bad (Is n))) Bad ≡ Is n
+    from : (x : Number) → written s ≡ x → onNumber x (λ n. cond (ltb most n) Bad (cond (ltb n least) Bad (Is n))) Bad ≡ Is n
         → (s ≡ decimal n) × (least ≤ n) × (n ≤ most)
     from (Is m) e q =
         let w = ranged m (ltb most m) (ltb m least) refl refl q in
         (written-decimal s n (e ∙ ap Is (w .0)), omega (arith, w .0, w .1), omega (arith, w .0, w .2))
     from Bad e q = absurd-by (cc)
 
-    to : s ≡ decimal n → least ≤ n → n ≤ most → onNumber (written s) (λ n. pick (ltb most n) Bad (pick (ltb n least) Bad (Is n))) Bad ≡ Is n
+    to : s ≡ decimal n → least ≤ n → n ≤ most → onNumber (written s) (λ n. cond (ltb most n) Bad (cond (ltb n least) Bad (Is n))) Bad ≡ Is n
     to e l h = rw (e, decimal-written n, le-ltb most n h, le-ltb n least l)
 
 -- a number is one only
@@ -201,7 +200,7 @@ decimal-digits zero n h = ((omega arith, omega arith), tt)
 decimal-digits (suc k) n h = go (ltb n 10) refl (decimal-digits k (n / 10))
   where
     go : (x : Bool) → ltb n 10 ≡ x → (n / 10 ≤ k → Every IsDigit (decimalFrom k (n / 10)))
-        → Every IsDigit (pick x ((48 + n) ∷ []) (decimalFrom k (n / 10) ++ ((48 + n % 10) ∷ [])))
+        → Every IsDigit (cond x ((48 + n) ∷ []) (decimalFrom k (n / 10) ++ ((48 + n % 10) ∷ [])))
     go true e ih = let l : n < 10 = ltb-true n 10 e in ((omega arith, omega arith), tt)
     go false e ih =
         let l : 10 ≤ n = ltb-false n 10 e in
@@ -227,7 +226,7 @@ unfolding wordLen
 word-rest [] = tt
 word-rest (b ∷ t) = go (eqb b 32) refl (word-rest t)
   where
-    go : (x : Bool) → eqb b 32 ≡ x → WordEnd (drop (wordLen t) t) → WordEnd (drop (pick x 0 (suc (wordLen t))) (b ∷ t))
+    go : (x : Bool) → eqb b 32 ≡ x → WordEnd (drop (wordLen t) t) → WordEnd (drop (cond x 0 (suc (wordLen t))) (b ∷ t))
     go true e ih = eqb-true b 32 e
     go false e ih = ih
 

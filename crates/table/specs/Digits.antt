@@ -1,6 +1,6 @@
 -- Model of the readers of numbers and of lists of rates.
 use mathlib.Core.Path.{_≡_}
-use mathlib.Core.Bool.{Bool, true, false}
+use mathlib.Core.Bool.{Bool, true, false, cond}
 use mathlib.Core.List.{List, [], _∷_, _++_}
 use Prim.Native.Nat.{ℕ, zero, suc, _+_, _-_, _*_}
 use lib.Dec.{eqb, ltb, leb}
@@ -11,12 +11,11 @@ use Rattle.table.specs.declared.number.Number.the-variants.{Is, Bad}
 use Rattle.table.specs.declared.number.Digit.{Digit}
 use Rattle.table.specs.declared.number.Digit.the-variants.{Of, Other}
 use Rattle.table.specs.declared.rates.Rates.{Rates}
-use Rattle.table.specs.Bytes.{pick}
 use Rattle.table.specs.Told.{padded}
 
 -- 0 to 9 are the bytes 48 to 57
 unfoldable pub digitOf : ℕ → Digit
-digitOf b = pick (ltb b 48) Other (pick (ltb b 58) (Of (b - 48)) Other)
+digitOf b = cond (ltb b 48) Other (cond (ltb b 58) (Of (b - 48)) Other)
 
 abbrev pub onDigit : {A : Type 0} → Digit → (ℕ → A) → A → A
 onDigit (Of d) f z = f d
@@ -31,7 +30,7 @@ digits (b ∷ s) v = onDigit (digitOf b) (λ d. digits s (v * 10 + d)) Bad
 unfoldable pub written : List ℕ → Number
 written [] = Bad
 written (b ∷ []) = digits (b ∷ []) 0
-written (b ∷ c ∷ s) = pick (eqb b 48) Bad (digits (b ∷ c ∷ s) 0)
+written (b ∷ c ∷ s) = cond (eqb b 48) Bad (digits (b ∷ c ∷ s) 0)
 
 abbrev pub onNumber : {A : Type 0} → Number → (ℕ → A) → A → A
 onNumber (Is n) f z = f n
@@ -39,12 +38,12 @@ onNumber Bad f z = z
 
 -- the number, where it is from least to most
 unfoldable pub numberOf : List ℕ → ℕ → ℕ → Number
-numberOf s least most = onNumber (written s) (λ n. pick (ltb most n) Bad (pick (ltb n least) Bad (Is n))) Bad
+numberOf s least most = onNumber (written s) (λ n. cond (ltb most n) Bad (cond (ltb n least) Bad (Is n))) Bad
 
 -- how many bytes stand before a space or the end
 unfoldable pub wordLen : List ℕ → ℕ
 wordLen [] = 0
-wordLen (b ∷ t) = pick (eqb b 32) 0 (suc (wordLen t))
+wordLen (b ∷ t) = cond (eqb b 32) 0 (suc (wordLen t))
 
 pub data RateList : Type 0 where
   rates : List ℕ → RateList

@@ -1,11 +1,11 @@
 -- Model of the reader: what a record lists, how a row is judged, and the whole text.
 use mathlib.Core.Path.{_≡_}
-use mathlib.Core.Bool.{Bool, true, false, _&&_, not}
+use mathlib.Core.Bool.{Bool, true, false, _&&_, not, cond}
 use mathlib.Core.List.{List, [], _∷_}
 use Prim.Native.Nat.{ℕ, zero, suc, _+_, _-_, _<_}
 use lib.Dec.{eqb, ltb, leb}
 use lib.ListN.{length, getD, set, replicate}
-use Rattle.numbers.specs.Bits.{bit}
+use Rattle.numbers.specs.Bits.{hasb}
 use Rattle.terms.specs.Limits.{MODES, ACTORS, CHANNELS, PHASES, MOST-BYTES, MOST-WCET, PROCESSORS}
 use Rattle.graph.specs.declared.shape.Mode.{Mode}
 use Rattle.graph.specs.declared.shape.Table.{Table}
@@ -15,7 +15,6 @@ use Rattle.table.specs.declared.row.Kind.the-variants.{Actor, Channel, B
 use Rattle.table.specs.declared.row.Line.{Line}
 use Rattle.table.specs.declared.row.Listing.{Listing}
 use Rattle.table.specs.declared.rates.Rates.{Rates}
-use Rattle.table.specs.Bytes.{pick}
 use Rattle.table.specs.Rows.{Row, actor, channel, actorWord, channelWord}
 use Rattle.table.specs.Told.{Outcome, rows, refused, tableOf}
 use Rattle.table.specs.Scan.{Cells, got, bad, cellsFrom}
@@ -29,7 +28,7 @@ same (x ∷ xs) [] = false
 same (x ∷ xs) (y ∷ ys) = eqb x y && same xs ys
 
 abbrev pub kindOf : List ℕ → Kind
-kindOf s = pick (same s actorWord) Actor (pick (same s channelWord) Channel Bad)
+kindOf s = cond (same s actorWord) Actor (cond (same s channelWord) Channel Bad)
 
 -- the row that six fields list
 pub data Parsed : Type 0 where
@@ -93,14 +92,10 @@ lineOf none =
 abbrev pub refusal : ℕ → Mode → Listing
 refusal n m = record { number = n; home = 0; mode = m }
 
--- the set has the place
-abbrev pub hasb : ℕ → ℕ → Bool
-hasb m i = eqb (bit m i) 1
-
 unfoldable pub actorListed : Mode → ℕ → Line → Listing
 actorListed m home l =
-    pick (hasb (m .active) (l .actor)) (refusal 3 m)
-    (pick (not (eqb home 0) && not (eqb home (l .is .processor))) (refusal 4 m)
+    cond (hasb (m .active) (l .actor)) (refusal 3 m)
+    (cond (not (eqb home 0) && not (eqb home (l .is .processor))) (refusal 4 m)
     (record { number = 0; home = l .is .processor; mode = withActor m (l .actor) (l .is) }))
 
 -- only zeros
@@ -121,11 +116,11 @@ channelTaken m home l =
 
 unfoldable pub channelListed : Mode → ℕ → Line → Listing
 channelListed m home l =
-    pick (not (hasb (m .active) (l .actor))) (refusal 3 m)
-    (pick (not (hasb (m .active) (l .to))) (refusal 3 m)
-    (pick (leb CHANNELS (m .count)) (refusal 3 m)
-    (pick (not (suitsb (l .production) (actorAt m (l .actor) .phases))) (refusal 5 m)
-    (pick (not (suitsb (l .consumption) (actorAt m (l .to) .phases))) (refusal 5 m) (channelTaken m home l)))))
+    cond (not (hasb (m .active) (l .actor))) (refusal 3 m)
+    (cond (not (hasb (m .active) (l .to))) (refusal 3 m)
+    (cond (leb CHANNELS (m .count)) (refusal 3 m)
+    (cond (not (suitsb (l .production) (actorAt m (l .actor) .phases))) (refusal 5 m)
+    (cond (not (suitsb (l .consumption) (actorAt m (l .to) .phases))) (refusal 5 m) (channelTaken m home l)))))
 
 unfoldable pub listed : Mode → ℕ → Line → Listing
 listed m home l = byKind (l .kind) (actorListed m home l) (channelListed m home l) (refusal 2 m)
@@ -157,8 +152,8 @@ readFrom (suc k) earlier (b ∷ t) =
     onParsed (parsedOf raws) (λ r.
     let n = judged earlier (row r) .number in
     let further = readFrom k (r ∷ earlier) rest in
-    pick (eqb n 0) further (refused n (suc (length earlier))))
+    cond (eqb n 0) further (refused n (suc (length earlier))))
     (refused 2 (suc (length earlier)))) (refused 1 (suc (length earlier)))
 
 unfoldable pub readOf : List ℕ → Outcome
-readOf t = pick (eqb (length t) 0) (refused 1 0) (pick (ltb MOST-BYTES (length t)) (refused 1 0) (readFrom (length t) [] t))
+readOf t = cond (eqb (length t) 0) (refused 1 0) (cond (ltb MOST-BYTES (length t)) (refused 1 0) (readFrom (length t) [] t))

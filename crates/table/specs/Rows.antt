@@ -1,5 +1,6 @@
 -- The rows of a table: what they list, how they are written, and when a row is refused.
 use mathlib.Core.Path.{_≡_}
+use mathlib.Core.Bool.{cond}
 use mathlib.Core.List.{List, [], _∷_, List·Memᴰ}
 use mathlib.Core.Logic.{_⊎_}
 use Prim.Native.Nat.{ℕ, _+_, _≤_, _<_}
@@ -8,7 +9,6 @@ use lib.ListN.{length}
 use Rattle.numbers.specs.Every.{Every}
 use Rattle.terms.specs.Text.{bytes}
 use Rattle.terms.specs.Limits.{MODES, ACTORS, CHANNELS, PHASES, MOST-WCET, MOST-RATE, PROCESSORS}
-use Rattle.table.specs.Bytes.{pick}
 use Rattle.table.specs.Decimal.{decimal, spaced}
 
 -- `actor,mode,actor,phases,wcet,processor` and `channel,mode,from,to,production,consumption`
@@ -51,7 +51,7 @@ Listed rows m a = (p w c : ℕ) × Lists rows m a p w c
 unfoldable pub channels : List Row → ℕ → ℕ
 channels [] m = 0
 channels (actor n a p w c ∷ rows) m = channels rows m
-channels (channel n f t ps cs ∷ rows) m = pick (eqb n m) (channels rows m + 1) (channels rows m)
+channels (channel n f t ps cs ∷ rows) m = cond (eqb n m) (channels rows m + 1) (channels rows m)
 
 -- Refusal 3: an actor listed twice in a mode; a channel end not yet listed in that mode; one channel too many.
 abbrev pub Refused3 : List Row → Row → Type 0

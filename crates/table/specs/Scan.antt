@@ -1,6 +1,6 @@
 -- Model of the record reader, on what is left of a text.
 use mathlib.Core.Path.{_≡_}
-use mathlib.Core.Bool.{Bool, true, false}
+use mathlib.Core.Bool.{Bool, true, false, cond}
 use mathlib.Core.List.{List, [], _∷_, _++_, map}
 use Prim.Native.Nat.{ℕ, zero, suc, _+_, _-_, _≤_}
 use lib.Dec.{ltb}
@@ -14,7 +14,7 @@ use Rattle.table.specs.declared.record.Found.{Found}
 use Rattle.table.specs.declared.record.Found.the-variants.{Cell, Bad}
 use Rattle.table.specs.declared.record.Step.{Step}
 use Rattle.table.specs.declared.record.Step.the-variants.{To, Bad as Stop}
-use Rattle.table.specs.Bytes.{pick, classOf, classAt}
+use Rattle.table.specs.Bytes.{classOf, classAt}
 
 -- a case for each class
 abbrev pub byClass : {A : Type 0} → Class → (text comma quote return feed other none : A) → A
@@ -86,7 +86,7 @@ unfoldable pub pastEnd : List ℕ → Rest
 pastEnd t = byClass (classAt t) stop stop stop (pastReturn t) stop stop (to t)
 
 abbrev pub pastAt : ℕ → List ℕ → Rest
-pastAt i t = pick (ltb i 5) (pastComma t) (pastEnd t)
+pastAt i t = cond (ltb i 5) (pastComma t) (pastEnd t)
 
 -- the last k of six fields, and what follows the record
 pub data Cells : Type 0 where

@@ -1,4 +1,5 @@
 -- How a table is written as text.
+use mathlib.Core.Bool.{cond}
 use mathlib.Core.List.{List, [], _∷_, _++_}
 use Prim.Native.Nat.{ℕ, zero, suc}
 use lib.Dec.{eqb}
@@ -10,7 +11,6 @@ use Rattle.graph.specs.declared.shape.Actor.{Actor}
 use Rattle.graph.specs.declared.shape.Mode.{Mode}
 use Rattle.graph.specs.declared.shape.Table.{Table}
 use Rattle.graph.specs.Shape.{actorAt, channelAt, modeAt}
-use Rattle.table.specs.Bytes.{pick}
 use Rattle.table.specs.Rows.{Row, actor, channel, contents}
 
 -- the contents of some fields, parted by commas
@@ -39,7 +39,7 @@ channelRow m M c =
 -- the rows of a mode's first n actors and of its first n channels
 unfoldable pub actorRows : ℕ → Mode → ℕ → List Row
 actorRows m M zero = []
-actorRows m M (suc i) = pick (eqb (bit (M .active) i) 1) (actorRow m i (actorAt M i) ∷ actorRows m M i) (actorRows m M i)
+actorRows m M (suc i) = cond (eqb (bit (M .active) i) 1) (actorRow m i (actorAt M i) ∷ actorRows m M i) (actorRows m M i)
 
 unfoldable pub channelRows : ℕ → Mode → ℕ → List Row
 channelRows m M zero = []

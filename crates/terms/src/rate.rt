@@ -1,12 +1,14 @@
 // The rate rule, between firings and tokens.
 use crate::units::Firing;
 use crate::units::Token;
+use numbers::common::gcd;
 ghost use mathlib.Core.Path.{_≡_};
 ghost use Prim.Native.Nat.{_*_, _^_, _<_, _≤_};
 ghost use lib.ListN.{length};
+ghost use Rattle.numbers.specs.Decides.{Decides};
 ghost use Rattle.numbers.specs.Sum.{sum};
 ghost use Rattle.terms.specs.Limits.{PHASES, MOST-RATE};
-ghost use Rattle.terms.specs.Rate.{rateOf, tokensOf};
+ghost use Rattle.terms.specs.Rate.{rateOf, tokensOf, times, Meets};
 
 // The sum of the first k rates of a list.
 fn first(rates: &[u8], k: usize) -> u64
@@ -32,4 +34,31 @@ pub fn tokens(rates: &[u8], n: Firing) -> Token
     let cycles = n.0 / phases as u64;
     let rest = n.0 % phases as u64;
     Token(cycles * first(rates, phases) + first(rates, rest as usize))
+}
+
+// Whether so many cycles of a producer make what so many cycles of a consumer take.
+pub fn even(makers: u64, made: Token, takers: u64, taken: Token) -> bool
+    requires { ⌜ (times makers made .0 < 2 ^ 64) × (times takers taken .0 < 2 ^ 64) ⌝ }
+    ensures { λ r. ⌜ Decides (times makers made ≡ times takers taken) r ⌝ }
+{
+    makers * made.0 == takers * taken.0
+}
+
+// How often a producer's cycles are to run, and how many cycles of the consumer then take what they make.
+pub struct Meeting {
+    pub times: u64,
+    pub takers: u64,
+}
+
+// The least of them.
+pub fn meet(makers: u64, made: Token, taken: Token) -> Meeting
+    requires { ⌜ (times makers made .0 < 2 ^ 64) × (0 < taken .0) ⌝ }
+    ensures { λ r. ⌜ Meets makers made taken r ⌝ }
+{
+    let tokens = makers * made.0;
+    let common = gcd(tokens, taken.0);
+    Meeting {
+        times: taken.0 / common,
+        takers: tokens / common,
+    }
 }

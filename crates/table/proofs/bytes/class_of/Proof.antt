@@ -1,10 +1,11 @@
 -- table::bytes::class_of meets its contract. Assumes nothing.
 use mathlib.Core.Path.{_≡_, ap, sym}
+use mathlib.Core.Bool.{cond}
 use Prim.Native.Nat.{ℕ}
 use lib.Dec.{ltb}
 use borrow.Author.Tests.{ne-eqb, le-ltb, lt-ltb}
 use Rattle.table.specs.declared.bytes.Class.the-variants.{Text, Other}
-use Rattle.table.specs.Bytes.{pick, classOf}
+use Rattle.table.specs.Bytes.{classOf}
 use Rattle.table.proofs.bytes.class_of.Statement.{statement}
 use Rattle.table.proofs.bytes.class_of.Tie as tie
 
@@ -26,7 +27,7 @@ returns-4 c = sym (ap classOf (c .match .keys4))
 
 -- of a byte that is none of the four
 unnamed : (b : ℕ) → (((Unit {0} × (b ≡ 44 → ⊥)) × (b ≡ 34 → ⊥)) × (b ≡ 13 → ⊥)) × (b ≡ 10 → ⊥)
-    → classOf b ≡ pick (ltb b 32) Other (pick (ltb b 127) Text Other)
+    → classOf b ≡ cond (ltb b 32) Other (cond (ltb b 127) Text Other)
 unfolding classOf
 unnamed b r = simp (ne-eqb b 44 (r .0 .0 .0 .1), ne-eqb b 34 (r .0 .0 .1), ne-eqb b 13 (r .0 .1), ne-eqb b 10 (r .1))
 

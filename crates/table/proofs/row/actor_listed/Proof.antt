@@ -6,7 +6,7 @@ use mathlib.Core.Bool.{false, not, _&&_}
 use mathlib.Core.Logic.{⊎-elim}
 use lib.Dec.{eqb}
 use Rattle.table.specs.Judge.{actorListed}
-use Rattle.table.proofs.Listing.{has-is}
+use Rattle.numbers.specs.Bits.{has-is}
 use Rattle.table.proofs.row.actor_listed.Statement.{statement}
 use Rattle.table.proofs.row.actor_listed.Tie as tie
 

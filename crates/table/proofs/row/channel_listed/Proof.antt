@@ -2,11 +2,12 @@
 use borrow.Author.Needs.{needs}
 use borrow.Author.Tests.{le-leb, lt-leb}
 use mathlib.Core.Path.{_≡_, sym, ap, _∙_}
-use mathlib.Core.Bool.{false, not}
+use mathlib.Core.Bool.{false, not, cond}
 use lib.Dec.{leb}
 use Rattle.terms.specs.Limits.{CHANNELS}
-use Rattle.table.specs.Judge.{hasb, channelListed}
-use Rattle.table.proofs.Listing.{lacks-is, pick-same}
+use Rattle.numbers.specs.Bits.{hasb}
+use Rattle.table.specs.Judge.{channelListed}
+use Rattle.table.proofs.Listing.{lacks-is, cond-same}
 use Rattle.table.proofs.row.channel_listed.Statement.{statement}
 use Rattle.table.proofs.row.channel_listed.Tie as tie
 
@@ -31,11 +32,11 @@ returns c = c .refused .ensures ∙ rw (lacks-is _ _ (c .before .before .has .re
 returns-2 : tie.Need-returns-2
 unfolding channelListed
 returns-2 c =
-    c .refused2 .ensures ∙ rw (lacks-is _ _ (c .before .before .has2 .result) (c .before .before .has2 .ensures) ∙ c .before .if2 .taken, pick-same)
+    c .refused2 .ensures ∙ rw (lacks-is _ _ (c .before .before .has2 .result) (c .before .before .has2 .ensures) ∙ c .before .if2 .taken, cond-same)
 
 returns-3 : tie.Need-returns-3
 unfolding channelListed
-returns-3 c = c .refused3 .ensures ∙ rw (le-leb _ _ (c .before .if3 .taken), pick-same, pick-same)
+returns-3 c = c .refused3 .ensures ∙ rw (le-leb _ _ (c .before .if3 .taken), cond-same, cond-same)
 
 returns-4 : tie.Need-returns-4
 unfolding channelListed
@@ -47,7 +48,7 @@ returns-5 : tie.Need-returns-5
 unfolding channelListed
 returns-5 c =
     let (f, t, r) = clear (c .before .before .before .before .before .before .before) in
-    c .refused5 .ensures ∙ rw (f, t, r, ap not (sym (c .before .before .suits2 .ensures)) ∙ c .before .if5 .taken, pick-same)
+    c .refused5 .ensures ∙ rw (f, t, r, ap not (sym (c .before .before .suits2 .ensures)) ∙ c .before .if5 .taken, cond-same)
 
 returns-6 : tie.Need-returns-6
 unfolding channelListed
