@@ -1,19 +1,20 @@
 -- The binary places of a number as a set of numbers, and the laws of `&`, `|`, shift and the count of ones.
 use mathlib.Core.Path.{_≡_, refl, sym, ap, _∙_}
-use mathlib.Core.Bool.{Bool}
+use mathlib.Core.Bool.{Bool, not, _&&_}
 use mathlib.Core.Logic.{_⊎_, inl, inr, ⊎-elim, _↔_}
 use Prim.Native.Nat.{ℕ, zero, suc, _+_, _-_, _/_, _%_, _*_, _^_, _<_, _≤_, min, max, zero-le, suc-le-suc}
-use native.Mathlib.Nat.{pow-suc, not-suc-le-zero, le-of-suc-le-suc, div-one, add-comm, zero-mul, one-mul, sub-zero}
+use native.Mathlib.Nat.{pow-suc, not-suc-le-zero, le-of-suc-le-suc, eq-or-lt-of-le, lt-suc-self, div-one, add-comm, zero-mul, one-mul, sub-zero}
 use native.Mathlib.Numerals.{add-one}
 use native.Mathlib.Omega.{arith}
 use native.Mathlib.Decide.{decLt, ℕ-discrete}
 use lib.Arith.{digits-div, digits-mod, lt-one}
-use lib.Pow.{shr-shr}
+use lib.Pow.{shr-shr, pow-pos}
 use lib.Count.{ones, onesIn, ones-step}
 use lib.Bits.{bitAnd, bitOr, and-step, or-step, and-le-l}
 use lib.Dec.{eqb}
-use Rattle.numbers.specs.Decides.{Decides, decides-unique, decides-eqb}
-use Rattle.numbers.specs.Sum.{sum}
+use Rattle.numbers.specs.Decides.{Decides, decides-unique, decides-eqb, decides-and, decides-not, decides-true, decides-false}
+use Rattle.numbers.specs.Lowest.{FirstPasses, NonePasses, sought}
+use Rattle.numbers.specs.Sum.{sum, sum-same, sum-most}
 
 -- place i of the number m in base two: 0 or 1
 unfoldable pub bit : ℕ → ℕ → ℕ
@@ -57,8 +58,11 @@ has-or-not m i = go (bit m i) (bit-lt m i)
     go (suc b) h = inl (omega arith)
 
 -- an answer to whether a set has a number is that test
+pub has-decides : (m i : ℕ) → Decides (Has m i) (hasb m i)
+has-decides m i = decides-eqb (bit m i) 1 ((λ h. h), (λ h. h))
+
 pub has-is : (m i : ℕ) (r : Bool) → Decides (Has m i) r → hasb m i ≡ r
-has-is m i r d = decides-unique (hasb m i) r (decides-eqb (bit m i) 1 ((λ h. h), (λ h. h))) d
+has-is m i r d = decides-unique (hasb m i) r (has-decides m i) d
 
 pub lacks : (m i : ℕ) → (Has m i → ⊥) → bit m i ≡ 0
 lacks m i n = omega (arith, bit-lt m i, n)
@@ -79,6 +83,13 @@ pub bit-or : (a b i : ℕ) → bit (bitOr a b) i ≡ max (bit a i) (bit b i)
 unfolding bit
 bit-or a b zero = rw or-step (digits-mod _ (omega arith))
 bit-or a b (suc i) = ap (λ (x : ℕ). bit x i) (rw or-step (digits-div _ (omega arith))) ∙ bit-or (a / 2) (b / 2) i
+
+-- what one of two sets has
+pub has-or : (a b i : ℕ) → Has (bitOr a b) i ↔ (Has a i ⊎ Has b i)
+has-or a b i = (
+  (λ h. ⊎-elim inl (λ (z : bit a i ≡ 0). inr (omega (arith, bit-or a b i))) (has-or-not a i)),
+  ⊎-elim (λ (h : Has a i). rw (bit-or, h) (omega (arith, bit-lt b i))) (λ (h : Has b i). rw (bit-or, h) (omega (arith, bit-lt a i))),
+)
 
 pub bit-zero : (i : ℕ) → bit 0 i ≡ 0
 unfolding bit
@@ -112,6 +123,9 @@ has-adding m i j = (to (ℕ-discrete j i), from)
     from (inl e) = rw (e, bit-or, bit-pow-same) (omega (arith, bit-lt m i))
     from (inr h) = rw (bit-or, h) (omega (arith, bit-lt (2 ^ i) j))
 
+pub bit-adding-other : (m i j : ℕ) → (j ≡ i → ⊥) → bit (adding m i) j ≡ bit m j
+bit-adding-other m i j n = rw (bit-or, bit-pow-other i j n) (omega arith)
+
 -- a set that has i, with i taken out
 pub has-pow : (m i : ℕ) → Has m i → 2 ^ i ≤ m
 unfolding bit
@@ -130,13 +144,19 @@ taken-other m zero (suc j) h n = ap (λ (x : ℕ). bit x j) (omega arith)
 taken-other m (suc i) zero h n = rw pow-suc (omega (arith, has-pow (m / 2) i h))
 taken-other m (suc i) (suc j) h n = rw pow-suc (ap (λ (x : ℕ). bit x j) (omega arith) ∙ taken-other (m / 2) i j h (λ e. n (ap suc e)))
 
+pub bit-removing-same : (m i : ℕ) → bit (removing m i) i ≡ 0
+bit-removing-same m i = ⊎-elim (λ (y : Has m i). rw (y, one-mul) (taken-same m i y)) (λ (z : bit m i ≡ 0). rw (z, zero-mul, sub-zero) z) (has-or-not m i)
+
+pub bit-removing-other : (m i j : ℕ) → (j ≡ i → ⊥) → bit (removing m i) j ≡ bit m j
+bit-removing-other m i j n = ⊎-elim (λ (y : Has m i). rw (y, one-mul) (taken-other m i j y n)) (λ (z : bit m i ≡ 0). rw (z, zero-mul, sub-zero)) (has-or-not m i)
+
 -- what the set without i has: what it had, but not i
 pub has-removing : (m i j : ℕ) → Has (removing m i) j ↔ ((j ≡ i → ⊥) × Has m j)
-has-removing m i j = go (has-or-not m i)
+has-removing m i j = (to (ℕ-discrete j i), (λ h. bit-removing-other m i j (h .0) ∙ h .1))
   where
-    go : Has m i ⊎ (bit m i ≡ 0) → Has (removing m i) j ↔ ((j ≡ i → ⊥) × Has m j)
-    go (inr z) = rw (z, zero-mul, sub-zero) ((λ (h : Has m j). ((λ e. omega (arith, rw e at h)), h)), (λ h. h .1))
-    go (inl y) = rw (y, one-mul) ((λ (h : Has (m - 2 ^ i) j). let n : j ≡ i → ⊥ = λ e. omega (arith, rw e at h, taken-same m i y) in (n, sym (taken-other m i j y n) ∙ h)), (λ h. taken-other m i j y (h .0) ∙ h .1))
+    to : Dec (j ≡ i) → Has (removing m i) j → (j ≡ i → ⊥) × Has m j
+    to (yes e) h = absurd (omega (arith, bit-removing-same m i, rw e at h))
+    to (no n) h = (n, sym (bit-removing-other m i j n) ∙ h)
 
 -- two sets below 2 ^ k that have the same numbers are one
 pub bit-ext : (k a b : ℕ) → a < 2 ^ k → b < 2 ^ k → ((i : ℕ) → i < k → bit a i ≡ bit b i) → a ≡ b
@@ -179,6 +199,34 @@ within-and a b = (to, from)
         bit-ext a (bitAnd a b) a (omega (arith, and-le-l a b, lt-pow a)) (lt-pow a)
         (λ i l. bit-and a b i ∙ ⊎-elim (λ (e : bit a i ≡ 1). let f : bit b i ≡ 1 = w i e in omega arith) (λ (e : bit a i ≡ 0). omega arith) (has-or-not a i))
 
+-- an answer to whether a is within b is that test
+pub within-decides : (a b : ℕ) → Decides (Within a b) (eqb (bitAnd a b) a)
+within-decides a b = decides-eqb (bitAnd a b) a (within-and a b)
+
+pub within-is : (a b : ℕ) (r : Bool) → Decides (Within a b) r → eqb (bitAnd a b) a ≡ r
+within-is a b r d = decides-unique (eqb (bitAnd a b) a) r (within-decides a b) d
+
+-- a set that is not within another has a number that the other has not
+pub outside : (a b : ℕ) → (Within a b → ⊥) → (i : ℕ) × Has a i × (Has b i → ⊥)
+outside a b n = go (sought (λ i. hasb a i && not (hasb b i)) a 0)
+  where
+    differs : (i : ℕ) → Decides (Has a i × (Has b i → ⊥)) (hasb a i && not (hasb b i))
+    differs i = decides-and (hasb a i) (not (hasb b i)) (has-decides a i) (decides-not (hasb b i) (has-decides b i))
+
+    go : ((i : ℕ) × FirstPasses (λ i. hasb a i && not (hasb b i)) a 0 i) ⊎ NonePasses (λ i. hasb a i && not (hasb b i)) a 0 → (i : ℕ) × Has a i × (Has b i → ⊥)
+    go (inl (i, p)) = let (h, l) = decides-true (differs i) (p .passes) in (i, h, l)
+    go (inr f) =
+        absurd (n (λ i h. ⊎-elim (λ (y : Has b i). y)
+        (λ (z : bit b i ≡ 0). absurd (decides-false (differs i) (f i zero-le (omega (arith, has-below a a i (lt-pow a) h))) (h, λ y. omega arith)))
+        (has-or-not b i)))
+
+-- a set that has nothing is 0, and any other has something
+pub empty : (m : ℕ) → ((i : ℕ) → Has m i → ⊥) → m ≡ 0
+empty m n = bit-ext m m 0 (lt-pow m) (pow-pos m) (λ i l. lacks m i (n i) ∙ sym (bit-zero i))
+
+pub some-has : (m : ℕ) → (m ≡ 0 → ⊥) → (i : ℕ) × Has m i
+some-has m n = let (i, h, l) = outside m 0 (λ w. n (empty m (λ i h. omega (arith, w i h, bit-zero i)))) in (i, h)
+
 size-low : (k m : ℕ) → size (suc k) m ≡ m % 2 + size k (m / 2)
 unfolding sum bit
 size-low zero m = omega arith
@@ -191,3 +239,57 @@ ones-size zero m h = rw (lt-one h)
 ones-size (suc k) m h =
     let h′ : m < 2 ^ k * 2 = rw pow-suc at h in
     ones-step m ∙ ap (λ (x : ℕ). m % 2 + x) (ones-size k (m / 2) (omega arith)) ∙ sym (size-low k m)
+
+pub size-most : (k m : ℕ) → size k m ≤ k
+size-most k m = omega (arith, sum-most (bit m) 1 k (λ i l. omega (arith, bit-lt m i)))
+
+-- a number more
+pub size-adding : (k m i : ℕ) → i < k → (Has m i → ⊥) → size k (adding m i) ≡ suc (size k m)
+unfolding sum
+size-adding zero m i h n = absurd (not-suc-le-zero h)
+size-adding (suc k) m i h n =
+    ⊎-elim (λ (e : i ≡ k).
+    let y : bit (adding m i) k ≡ 1 = has-adding m i k .1 (inl (sym e)) in
+    let z : bit m k ≡ 0 = rw (← e) (lacks m i n) in
+    omega (arith, sum-same (bit (adding m i)) (bit m) k (λ j l. bit-adding-other m i j (λ q. omega arith))))
+    (λ (l : i < k). omega (arith, size-adding k m i l n, bit-adding-other m i k (λ q. omega arith)))
+    (eq-or-lt-of-le (le-of-suc-le-suc h))
+
+-- a size of 0: none of the numbers below k
+pub size-none : (k m : ℕ) → size k m ≡ 0 → (i : ℕ) → i < k → Has m i → ⊥
+unfolding sum
+size-none zero m e i h y = not-suc-le-zero h
+size-none (suc k) m e i h y =
+    ⊎-elim (λ (q : i ≡ k). omega (arith, ap (bit m) q)) (λ (l : i < k). size-none k m (omega arith) i l y) (eq-or-lt-of-le (le-of-suc-le-suc h))
+
+pub none-size : (k m : ℕ) → ((i : ℕ) → i < k → Has m i → ⊥) → size k m ≡ 0
+unfolding sum
+none-size zero m n = refl
+none-size (suc k) m n = omega (arith, none-size k m (λ i l. n i (omega arith)), lacks m k (n k (lt-suc-self k)))
+
+-- a set below 2 ^ k is 0 exactly when its size is
+pub size-zero : (k m : ℕ) → m < 2 ^ k → (size k m ≡ 0) ↔ (m ≡ 0)
+size-zero k m h =
+    ((λ e. empty m (λ i y. size-none k m e i (has-below k m i h y) y)), (λ e. none-size k m (λ i l y. omega (arith, bit-zero i, ap (λ (n : ℕ). bit n i) e))))
+
+-- a size of 1: one of the numbers below k, and only one
+pub size-one : (k m : ℕ) → size k m ≡ 1 → (i : ℕ) × (i < k) × Has m i × ((j : ℕ) → j < k → Has m j → j ≡ i)
+unfolding sum
+size-one zero m e = absurd (omega arith)
+size-one (suc k) m e = go (has-or-not m k) (size-one k m)
+  where
+    go : Has m k ⊎ (bit m k ≡ 0) → (size k m ≡ 1 → (i : ℕ) × (i < k) × Has m i × ((j : ℕ) → j < k → Has m j → j ≡ i))
+        → (i : ℕ) × (i < suc k) × Has m i × ((j : ℕ) → j < suc k → Has m j → j ≡ i)
+    go (inl y) ih =
+        (k, lt-suc-self k, y, λ j l h. ⊎-elim (λ (q : j ≡ k). q) (λ (b : j < k). absurd (size-none k m (omega arith) j b h)) (eq-or-lt-of-le (le-of-suc-le-suc l)))
+    go (inr z) ih =
+        let (i, l, y, u) = ih (omega arith) in
+        (i, omega arith, y, λ j b h. ⊎-elim (λ (q : j ≡ k). absurd (omega (arith, ap (bit m) q))) (λ (b : j < k). u j b h) (eq-or-lt-of-le (le-of-suc-le-suc b)))
+
+pub one-size : (k m i : ℕ) → i < k → Has m i → ((j : ℕ) → j < k → Has m j → j ≡ i) → size k m ≡ 1
+unfolding sum
+one-size zero m i l y u = absurd (not-suc-le-zero l)
+one-size (suc k) m i l y u =
+    ⊎-elim (λ (q : i ≡ k). omega (arith, none-size k m (λ j b h. omega (arith, u j (omega arith) h)), ap (bit m) q))
+    (λ (b : i < k). omega (arith, one-size k m i b y (λ j c. u j (omega arith)), lacks m k (λ h. omega (arith, u k (lt-suc-self k) h))))
+    (eq-or-lt-of-le (le-of-suc-le-suc l))

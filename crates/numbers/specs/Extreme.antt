@@ -1,8 +1,9 @@
 -- The least and the greatest number with a property, and how many there are where they come first. Each is one number at most.
 use mathlib.Core.Path.{_≡_}
-use mathlib.Core.Logic.{_↔_}
-use Prim.Native.Nat.{ℕ, _≤_, _<_}
-use native.Mathlib.Nat.{le-antisymm, lt-irrefl, lt-of-not-le}
+use mathlib.Core.Logic.{_↔_, ⊎-elim}
+use Prim.Native.Nat.{ℕ, zero, suc, _≤_, _<_, max}
+use native.Mathlib.Nat.{le-antisymm, lt-irrefl, lt-of-not-le, lt-of-lt-of-le, not-suc-le-zero, le-of-suc-le-suc, eq-or-lt-of-le}
+use native.Mathlib.Omega.{arith}
 use native.Mathlib.Decide.{decLe}
 
 -- n has the property P, and no smaller number has it
@@ -34,3 +35,36 @@ first-unique P {n} {m} p q = le-antisymm (at-most p q) (at-most q p)
         go : Dec (a ≤ b) → a ≤ b
         go (yes h) = h
         go (no h) = absurd (lt-irrefl b (g b .1 (f b .0 (lt-of-not-le h))))
+
+-- the greatest of the first n values of a function; 0 where there is none
+unfoldable pub mostOf : (ℕ → ℕ) → ℕ → ℕ
+mostOf f zero = 0
+mostOf f (suc n) = max (mostOf f n) (f n)
+
+module _ (f : ℕ → ℕ) where
+  -- no value is above it, and one is it
+  pub most-above : (n i : ℕ) → i < n → f i ≤ mostOf f n
+  unfolding mostOf
+  most-above zero i h = absurd (not-suc-le-zero h)
+  most-above (suc n) i h =
+      ⊎-elim (λ (e : i ≡ n). rw e (omega arith)) (λ (g : i < n). omega (arith, most-above n i g)) (eq-or-lt-of-le (le-of-suc-le-suc h))
+
+  pub most-at : (n : ℕ) → 0 < mostOf f n → (i : ℕ) × (i < n) × (f i ≡ mostOf f n)
+  unfolding mostOf
+  most-at zero h = absurd (not-suc-le-zero h)
+  most-at (suc n) h = go (decLe (f n) (mostOf f n)) (most-at n)
+    where
+      go : Dec (f n ≤ mostOf f n) → (0 < mostOf f n → (i : ℕ) × (i < n) × (f i ≡ mostOf f n))
+          → (i : ℕ) × (i < suc n) × (f i ≡ max (mostOf f n) (f n))
+      go (yes g) before = let (i, l, e) = before (omega arith) in (i, omega arith, omega arith)
+      go (no g) before = (n, omega arith, omega arith)
+
+  -- the greatest of the values at places that have the property P, where one of these is above 0, and no other value is
+  pub most-greatest : (P : ℕ → Type 0) (n i : ℕ) → (i < n) × P i → 0 < f i → ((j : ℕ) → j < n → 0 < f j → P j)
+      → Greatest (λ v. (j : ℕ) × ((j < n) × P j) × (f j ≡ v)) (mostOf f n)
+  most-greatest P n i a pos only =
+      let (j, l, e) = most-at n (lt-of-lt-of-le pos (most-above n i (a .0))) in
+      record {
+        holds = (j, (l, only j l (omega (arith, most-above n i (a .0)))), e);
+        greatest = λ v (k, b, d). omega (arith, most-above n k (b .0));
+      }

@@ -1,5 +1,5 @@
 -- Exact fractions: `over` parts of a whole that is cut in `under` parts.
-use mathlib.Core.Path.{_≡_, refl, sym, ap, _∙_}
+use mathlib.Core.Path.{_≡_, refl, sym, ap, ap₂, _∙_}
 use mathlib.Core.Logic.{_↔_}
 use Prim.Native.Nat.{ℕ, zero, suc, _+_, _*_, _/_, _%_, _≤_, _<_}
 use native.Mathlib.Nat.{mul-pos, le-of-mul-le-mul-left, mul-le-mul-left, mul-le-mul-right, mul-lt-mul-of-pos-right, le-refl, le-of-lt, lt-of-not-le, lt-div-mul-add, div-mul-le-self, div-add-mod', pos-of-ne-zero}
@@ -33,6 +33,11 @@ pub sum-proper : (f : ℕ → Fraction) (n : ℕ) → ((i : ℕ) → i < n → P
 unfolding sumOf
 sum-proper f zero h = omega arith
 sum-proper f (suc n) h = mul-pos (sum-proper f n (λ i l. h i (omega arith))) (h n (le-refl (suc n)))
+
+pub sum-alike : (f g : ℕ → Fraction) (n : ℕ) → ((i : ℕ) → i < n → f i ≡ g i) → sumOf f n ≡ sumOf g n
+unfolding sumOf
+sum-alike f g zero h = refl
+sum-alike f g (suc n) h = ap₂ plus (sum-alike f g n (λ i l. h i (omega arith))) (h n (le-refl (suc n)))
 
 -- fractions of one whole of h parts are summed by their parts
 pub sum-common : (f : ℕ → Fraction) (s : ℕ → ℕ) (h n : ℕ) → ((i : ℕ) → i < n → Same (f i) (record { over = s i; under = h })) → Same (sumOf f n) (record { over = sum s n; under = h })

@@ -2,6 +2,7 @@
 pub mod Extreme
 pub mod Decides
 pub mod Every
+pub mod All
 pub mod Tab
 pub mod Sum
 pub mod Common

@@ -1,9 +1,10 @@
 -- Model: the lowest number that passes a test, as a search from the front finds it.
-use mathlib.Core.Path.{_≡_, refl}
+use mathlib.Core.Path.{_≡_, refl, sym, _∙_}
 use mathlib.Core.Bool.{Bool, true, false, cond}
 use mathlib.Core.Logic.{_⊎_, inl, inr, ⊎-elim}
-use Prim.Native.Nat.{ℕ, zero, suc, _+_, _≤_, _<_}
+use Prim.Native.Nat.{ℕ, zero, suc, _+_, _-_, _≤_, _<_}
 use native.Mathlib.Nat.{le-refl, eq-or-lt-of-le}
+use native.Mathlib.Numerals.{add-one}
 use native.Mathlib.Omega.{arith}
 
 -- among the k numbers from i on; d where none passes
@@ -21,6 +22,16 @@ module _ (f : ℕ → Bool) where
     pub below : j < i + k
     pub passes : f j ≡ true
     pub first : (l : ℕ) → i ≤ l → l < j → f l ≡ false
+
+  -- one number passed, as a loop counts
+  pub lowest-next : (d k i : ℕ) → i < k → lowestOr f d (k - i) i ≡ cond (f i) i (lowestOr f d (k - (i + 1)) (i + 1))
+  unfolding lowestOr
+  lowest-next d k i h = let e : k - i ≡ suc (k - (i + 1)) = omega arith in rw (e, add-one i)
+
+  -- one number more that does not pass
+  pub none-more : (k i j : ℕ) → j ≡ i + k → f j ≡ false → NonePasses k i → NonePasses (k + 1) i
+  none-more k i j e h p l a b =
+      ⊎-elim (λ (s : l ≡ i + k). rw (s ∙ sym e) h) (λ (c : l < i + k). p l a c) (eq-or-lt-of-le (omega arith))
 
   pub lowest-none : (d k i : ℕ) → NonePasses k i → lowestOr f d k i ≡ d
   unfolding lowestOr

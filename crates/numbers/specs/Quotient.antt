@@ -1,7 +1,7 @@
 -- The quotient rounded up, and its laws.
 use mathlib.Core.Path.{_≡_, subst}
 use Prim.Native.Nat.{ℕ, zero, _+_, _*_, _/_, _%_, _≤_, _<_}
-use native.Mathlib.Nat.{div-add-mod', div-le-of-le-mul, lt-div-mul-add, le-mul-of-pos-right, mul-le-mul-right, mul-comm, add-mul, one-mul, lt-of-not-le}
+use native.Mathlib.Nat.{div-add-mod', div-le-of-le-mul, lt-div-mul-add, le-mul-of-pos-right, mul-le-mul-left, mul-le-mul-right, le-of-mul-le-mul-left, mul-comm, add-mul, one-mul, lt-of-not-le}
 use native.Mathlib.Omega.{arith}
 use Rattle.numbers.specs.Extreme.{Least}
 
@@ -24,3 +24,11 @@ rounded-more a b pos f =
 
 pub rounded-fits : (a b : ℕ) → zero < b → (a % b ≡ 0 → ⊥) → a / b + 1 ≤ a
 rounded-fits a b pos f = omega (arith, f, le-mul-of-pos-right (a / b) pos, div-add-mod' a b)
+
+-- a common factor goes out
+pub rounded-times : (c a b : ℕ) {n : ℕ} → zero < c → RoundedUp a b n → RoundedUp (c * a) (c * b) n
+rounded-times c a b pos p =
+    record {
+      holds = omega (arith, mul-le-mul-left c (p .holds));
+      least = λ m h. p .least m (le-of-mul-le-mul-left {k = c} (omega (arith, h)) pos);
+    }

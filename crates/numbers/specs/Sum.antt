@@ -45,6 +45,11 @@ sum-parts f m (suc k) = rw add-suc (omega (arith, sum-parts f m k))
 pub sum-more : (f : ℕ → ℕ) (m n : ℕ) → m ≤ n → sum f m ≤ sum f n
 sum-more f m n h = rw (← le-dest h .1) (omega (arith, sum-parts f m (le-dest h .0)))
 
+-- no value is above the sum
+pub sum-one : (f : ℕ → ℕ) (i n : ℕ) → i < n → f i ≤ sum f n
+unfolding sum
+sum-one f i n h = omega (arith, sum-more f (suc i) n h)
+
 -- values that repeat after p: each further round adds the same
 module _ (f : ℕ → ℕ) (p : ℕ) (round : (n : ℕ) → f (n + p) ≡ f n) where
   pub rounds : (n k : ℕ) → f (n + k * p) ≡ f n
