@@ -1,3 +1,14 @@
--- The rules of a mode's graph.
+-- The rules of a mode's graph, and then the models of the code that finds it.
 pub mod Shape
 pub mod Proper
+pub mod Grown
+pub mod Order
+pub mod Ends
+pub mod Balance
+pub mod Load
+pub mod Judged
+pub mod Laws
+pub mod Rounds
+pub mod Counts
+pub mod Lengths
+pub mod Judge

@@ -1,10 +1,9 @@
 -- A table in memory: what stands where, and how a mode grows by an actor or a channel.
-use mathlib.Core.List.{List, []}
-use Prim.Native.Nat.{ℕ, _+_}
+use mathlib.Core.List.{[]}
+use Prim.Native.Nat.{ℕ, _+_, _<_}
 use lib.ListN.{getD, set, replicate}
-use Rattle.numbers.specs.Bits.{adding}
+use Rattle.numbers.specs.Bits.{Has, adding}
 use Rattle.terms.specs.Limits.{MODES, ACTORS, CHANNELS, PHASES}
-use Rattle.terms.specs.declared.units.Tick.{Tick}
 use Rattle.graph.specs.declared.shape.Actor.{Actor}
 use Rattle.graph.specs.declared.shape.Channel.{Channel}
 use Rattle.graph.specs.declared.shape.Mode.{Mode}
@@ -29,6 +28,10 @@ channelAt m k = getD (m .channels) k noChannel
 
 abbrev pub modeAt : Table → ℕ → Mode
 modeAt t m = getD (t .modes) m noMode
+
+-- an actor of a mode
+abbrev pub Active : Mode → ℕ → Type 0
+Active m i = (i < ACTORS) × Has (m .active) i
 
 -- a channel, a mode and a table in which nothing is listed
 abbrev pub emptyChannel : Channel

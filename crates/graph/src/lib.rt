@@ -1,2 +1,137 @@
-// The graphs of a table's modes.
+// The graphs of a table's modes: what is refused by 6 to 9, and firings, periods and iteration of the others.
+mod balance;
+mod ends;
+mod iteration;
+mod load;
+mod order;
 pub mod shape;
+
+use numbers::bits::size;
+use shape::Mode;
+use terms::limits::ACTORS;
+use terms::limits::PROCESSORS;
+use terms::period::Length;
+use units::Firing;
+use units::Tick;
+ghost use mathlib.Core.Path.{_≡_};
+ghost use Rattle.graph.specs.Shape.{Active};
+ghost use Rattle.graph.specs.Proper.{ProperMode};
+ghost use Rattle.graph.specs.Ends.{Ends};
+ghost use Rattle.graph.specs.Judged.{Judged, refusedBy};
+ghost use Rattle.graph.specs.Order.{Ranked};
+ghost use Rattle.graph.specs.Counts.{Counted};
+ghost use Rattle.graph.specs.Judge.{timedOf, balancedOf};
+
+// The first of the refusals 6 to 9 that applies to a mode, 9 with its processor; or that none does.
+pub enum Verdict {
+    Cyclic,
+    Ends,
+    Unbalanced,
+    Overloaded(usize),
+    Sound,
+}
+
+// What is judged of a mode. Places of actors count from 0.
+pub struct Judgement {
+    pub verdict: Verdict,
+    pub source: usize,
+    pub sink: usize,
+    pub iteration: Tick,
+    pub depths: [usize; ACTORS],
+    pub counts: [u64; ACTORS],
+    pub firings: [Firing; ACTORS],
+    pub periods: [Tick; ACTORS],
+    pub shares: [Tick; PROCESSORS],
+}
+
+fn refused(verdict: Verdict) -> Judgement
+    ensures { λ r. ⌜ r ≡ refusedBy verdict ⌝ }
+{
+    Judgement {
+        verdict,
+        source: 0,
+        sink: 0,
+        iteration: Tick(0),
+        depths: [0; ACTORS],
+        counts: [0; ACTORS],
+        firings: [Firing(0); ACTORS],
+        periods: [Tick(0); ACTORS],
+        shares: [Tick(0); PROCESSORS],
+    }
+}
+
+// A mode whose order and ends are known, with its smallest cycle counts: its iteration and its load.
+fn timed(
+    mode: Mode,
+    depths: [usize; ACTORS],
+    source: usize,
+    sink: usize,
+    counts: [u64; ACTORS],
+) -> Judgement
+    requires { ⌜ ProperMode mode × Counted mode counts × Active mode source ⌝ }
+    ensures { λ r. ⌜ r ≡ timedOf mode depths source sink counts ⌝ }
+{
+    let active = mode.active;
+    let actors = mode.actors;
+    let firings = iteration::firings_of(actors, counts);
+    let works = iteration::works_of(actors, firings);
+    let Length::Is(iteration) = iteration::length_of(works, firings, active) else {
+        return refused(Verdict::Unbalanced);
+    };
+    let shares = load::shares_of(actors, works);
+    let over = load::overloaded(shares, iteration);
+    if over != 0 {
+        return refused(Verdict::Overloaded(over));
+    }
+    Judgement {
+        verdict: Verdict::Sound,
+        source,
+        sink,
+        iteration,
+        depths,
+        counts,
+        firings,
+        periods: iteration::periods_of(iteration, firings, active),
+        shares,
+    }
+}
+
+// A mode whose order and ends are known: its balance.
+fn balanced(mode: Mode, depths: [usize; ACTORS], source: usize, sink: usize) -> Judgement
+    requires { ⌜ ProperMode mode × Ranked mode depths × Ends mode source sink ⌝ }
+    ensures { λ r. ⌜ r ≡ balancedOf mode depths source sink ⌝ }
+{
+    let entries = balance::entries_of(mode);
+    let found = balance::counts_of(mode, entries, depths, source);
+    if !found.good {
+        return refused(Verdict::Unbalanced);
+    }
+    let counts = found.counts;
+    if !balance::balances(mode, counts) {
+        return refused(Verdict::Unbalanced);
+    }
+    timed(mode, depths, source, sink, counts)
+}
+
+// Judges a mode.
+pub fn judge(mode: Mode) -> Judgement
+    requires { ⌜ ProperMode mode ⌝ }
+    ensures { λ r. ⌜ Judged mode r ⌝ }
+{
+    let active = mode.active;
+    let preds = order::preds_of(mode);
+    let order = order::order_of(preds, active);
+    if order.left != 0 {
+        return refused(Verdict::Cyclic);
+    }
+    let firsts = ends::firsts(preds, active);
+    let lasts = ends::lasts(preds, active);
+    if size(firsts) != 1 {
+        return refused(Verdict::Ends);
+    }
+    if size(lasts) != 1 {
+        return refused(Verdict::Ends);
+    }
+    let depths = order.depths;
+    balanced(mode, depths, ends::lowest(firsts), ends::lowest(lasts))
+}

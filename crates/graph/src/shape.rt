@@ -3,7 +3,7 @@ use terms::limits::ACTORS;
 use terms::limits::CHANNELS;
 use terms::limits::MODES;
 use terms::limits::PHASES;
-use terms::units::Tick;
+use units::Tick;
 
 // A stage of a mode: its phases, the most ticks that a firing needs, and the number of its processor.
 pub struct Actor {

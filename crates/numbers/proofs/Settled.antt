@@ -1,5 +1,5 @@
 -- Each public function's statement admits one answer only.
-use mathlib.Core.Path.{_≡_, sym, _∙_}
+use mathlib.Core.Path.{sym, _∙_}
 use Rattle.numbers.specs.Extreme.{least-unique}
 use Rattle.numbers.specs.Decides.{decides-unique}
 use Rattle.numbers.specs.Euclid.{gcd-unique}

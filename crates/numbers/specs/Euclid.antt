@@ -1,9 +1,8 @@
 -- Laws of the greatest common divisor: there is one and only one; a common factor goes through; Euclid's lemma; Bézout's numbers.
 use mathlib.Core.Path.{_≡_, refl, sym, ap, subst, subst₂}
-use mathlib.Core.Logic.{_⊎_, inl, inr}
-use Prim.Native.Nat.{ℕ, zero, suc, _+_, _-_, _*_, _/_, _%_, _≤_, _<_, _∣_}
+use Prim.Native.Nat.{ℕ, zero, suc, _+_, _-_, _*_, _/_, _%_, _<_, _∣_}
 use native.Mathlib.Nat.{dvd-refl, dvd-zero, dvd-antisymm, dvd-mod-iff, dvd-mul-left, dvd-mul-right, mul-dvd-mul-left, dvd-of-mul-dvd-mul-left, mul-div-cancel', pos-of-dvd-of-pos, div-add-mod'}
-use native.Mathlib.Nat.{mul-one, mul-comm, zero-mul, mod-lt, le-of-suc-le-suc, not-suc-le-zero, lt-of-lt-of-le, lt-of-le-of-lt, le-of-eq, zero-lt-suc, lt-suc-self, eq-zero-or-pos, le-of-dvd, le-mul-of-pos-right}
+use native.Mathlib.Nat.{mul-comm, zero-mul, mod-lt, le-of-suc-le-suc, not-suc-le-zero, lt-of-lt-of-le, lt-of-le-of-lt, le-of-eq, zero-lt-suc, lt-suc-self, le-of-dvd, le-mul-of-pos-right}
 use native.Mathlib.Omega.{arith}
 use Rattle.numbers.specs.Common.{IsGcd}
 

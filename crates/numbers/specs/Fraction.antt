@@ -1,5 +1,5 @@
 -- Exact fractions: `over` parts of a whole that is cut in `under` parts.
-use mathlib.Core.Path.{_≡_, refl, sym, ap, ap₂, _∙_}
+use mathlib.Core.Path.{_≡_, refl, ap, ap₂}
 use mathlib.Core.Logic.{_↔_}
 use Prim.Native.Nat.{ℕ, zero, suc, _+_, _*_, _/_, _%_, _≤_, _<_}
 use native.Mathlib.Nat.{mul-pos, le-of-mul-le-mul-left, mul-le-mul-left, mul-le-mul-right, mul-lt-mul-of-pos-right, le-refl, le-of-lt, lt-of-not-le, lt-div-mul-add, div-mul-le-self, div-add-mod', pos-of-ne-zero}

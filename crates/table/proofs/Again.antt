@@ -1,19 +1,17 @@
 -- The tables that texts read as are the proper ones: each is written as a text that reads as it again. Assumes nothing.
-use mathlib.Core.Path.{_≡_, refl, sym, ap, subst, _∙_}
-use mathlib.Core.List.{List, []}
-use Prim.Native.Nat.{ℕ, _≤_, _<_}
+use mathlib.Core.Path.{_≡_, refl, sym, ap, subst}
+use mathlib.Core.List.{List}
+use Prim.Native.Nat.{ℕ}
 use native.Mathlib.Omega.{arith}
-use lib.ListN.{length}
-use Rattle.terms.specs.Limits.{MOST-BYTES}
 use Rattle.terms.specs.declared.refusal.Place.the-variants.{Row as AtRow}
 use Rattle.graph.specs.declared.shape.Table.{Table}
 use Rattle.graph.specs.Proper.{ProperTable}
 use Rattle.table.specs.declared.Answer.the-variants.{Read, Refused}
 use Rattle.table.specs.declared.Reading.{Reading}
 use Rattle.table.specs.Rows.{Row}
-use Rattle.table.specs.Told.{Outcome, rows, refused, After, done, next, Of, wrong-length, right-length, tableOf, readingOf, Told}
-use Rattle.table.specs.Writing.{textOf, rowsOf, written}
-use Rattle.table.proofs.Lookup.{Passed, start}
+use Rattle.table.specs.Told.{Outcome, rows, refused, Of, wrong-length, right-length, tableOf, readingOf, Told}
+use Rattle.table.specs.Writing.{rowsOf, written}
+use Rattle.table.proofs.Lookup.{start}
 use Rattle.table.proofs.Reread.{read-again, after-passed, after-some}
 use Rattle.table.proofs.Kept.{proper}
 use Rattle.table.proofs.Rewritten.{rows-passed, rows-table}

@@ -1,26 +1,26 @@
 -- The reader's judgement of a row after rows that passed is that of refusals 3, 4 and 5. Assumes nothing.
 use mathlib.Core.Path.{_≡_, refl, sym, ap, subst, _∙_}
 use mathlib.Core.Bool.{Bool, true, false, _&&_, not, cond}
-use mathlib.Core.List.{List, [], _∷_, _++_, List·Memᴰ, List·Memᴰ·head, List·Memᴰ·tail}
-use mathlib.Core.Logic.{_⊎_, inl, inr, _↔_}
-use Prim.Native.Nat.{ℕ, zero, suc, _+_, _-_, _≤_, _<_}
+use mathlib.Core.List.{List, [], _∷_, _++_, List·Memᴰ·head, List·Memᴰ·tail}
+use mathlib.Core.Logic.{_⊎_, inl, inr}
+use Prim.Native.Nat.{ℕ, zero, suc, _+_, _-_, _≤_}
 use native.Mathlib.Omega.{arith}
 use native.Mathlib.Decide.{ℕ-discrete}
-use lib.Dec.{eqb, leb, ltb}
+use lib.Dec.{eqb, leb}
 use lib.ListN.{length, getD, set, take, replicate, length-set, length-replicate, getD-replicate}
 use lib.Seq.{getD-set-same, getD-set-other}
-use borrow.Author.Tests.{eq-eqb, ne-eqb, eqb-true, eqb-false, leb-true, leb-false}
+use borrow.Author.Tests.{eqb-true, eqb-false, leb-true, leb-false}
 use Rattle.numbers.specs.Every.{Every}
-use Rattle.numbers.specs.Bits.{bit, Has, hasb}
+use Rattle.numbers.specs.Bits.{hasb}
 use Rattle.terms.specs.Limits.{MODES, ACTORS, CHANNELS, PHASES}
 use Rattle.graph.specs.declared.shape.Actor.{Actor}
 use Rattle.graph.specs.declared.shape.Mode.{Mode}
-use Rattle.graph.specs.Shape.{noActor, actorAt, modeAt, withActor, withChannel}
+use Rattle.graph.specs.Shape.{actorAt, modeAt, withActor, withChannel}
 use Rattle.table.specs.declared.row.Listing.{Listing}
-use Rattle.table.specs.Rows.{Row, actor, channel, Between, InRange, Lists, Listed, channels, Unfit, Refused3, Refused4, Refused5, Passes}
+use Rattle.table.specs.Rows.{Row, actor, channel, Between, InRange, Lists, Listed, Unfit, Refused3, Refused4, Refused5, Passes}
 use Rattle.table.specs.Told.{padded, tableOf}
 use Rattle.table.specs.Digits.{rates, ratesIn}
-use Rattle.table.specs.Judge.{row, lineOf, refusal, zeros, suitsb, actorListed, channelListed, listed, homesOf, judged}
+use Rattle.table.specs.Judge.{row, refusal, zeros, suitsb, actorListed, channelListed, listed, homesOf, judged}
 use Rattle.table.proofs.Lookup.{Passed, start, then, Holds, holds, lists-cons}
 
 -- where an actor was last listed

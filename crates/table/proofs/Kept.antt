@@ -2,84 +2,26 @@
 use mathlib.Core.Path.{_≡_, refl, sym, ap, subst, _∙_}
 use mathlib.Core.List.{List, [], _∷_, _++_, List·Memᴰ·head, List·Memᴰ·tail}
 use mathlib.Core.Logic.{_⊎_, inl, inr}
-use Prim.Native.Nat.{ℕ, zero, suc, _+_, _-_, _^_, _≤_, _<_}
+use Prim.Native.Nat.{ℕ, zero, suc, _+_, _-_, _≤_, _<_}
 use native.Mathlib.Numerals.{sub-one}
 use native.Mathlib.Omega.{arith}
 use native.Mathlib.Decide.{ℕ-discrete}
-use lib.Bits.{or-lt}
-use lib.Pow.{pow-lt}
-use lib.ListN.{length, getD, take, replicate, length-set, length-take, length-append, length-replicate, getD-replicate, List·getD-eq-default}
-use lib.Seq.{getD-set-same, getD-set-other}
+use lib.ListN.{length, getD, take, replicate, length-set, length-take, length-append, length-replicate, List·getD-eq-default}
+use lib.Seq.{getD-set-same}
 use Rattle.numbers.specs.Every.{Every}
-use Rattle.numbers.specs.Bits.{bit, Has, has-adding, has-or-not, bit-zero}
+use Rattle.numbers.specs.Bits.{bit, Has, has-adding, has-or-not}
 use Rattle.terms.specs.Limits.{MODES, ACTORS, CHANNELS, PHASES, MOST-RATE}
 use Rattle.graph.specs.declared.shape.Actor.{Actor}
 use Rattle.graph.specs.declared.shape.Channel.{Channel}
 use Rattle.graph.specs.declared.shape.Mode.{Mode}
 use Rattle.graph.specs.declared.shape.Table.{Table}
-use Rattle.graph.specs.Shape.{noActor, noChannel, emptyChannel, emptyMode, emptyTable, actorAt, channelAt, modeAt, withActor, withChannel, withMode}
-use Rattle.graph.specs.Proper.{ProperActor, ProperRates, ProperChannel, ProperMode, ProperTable}
+use Rattle.graph.specs.Shape.{noActor, emptyMode, emptyTable, actorAt, modeAt, withActor, withChannel, withMode}
+use Rattle.graph.specs.Proper.{ProperRates, ProperMode, ProperTable}
+use Rattle.graph.specs.Grown.{empty-proper, aside, actor-mode, channel-mode}
 use Rattle.table.specs.Rows.{Row, actor, channel, Between, Rates, InRange, Lists, Listed, channels, Unfit, Passes}
 use Rattle.table.specs.Told.{padded, listing, tableOf}
 use Rattle.table.proofs.Lookup.{Passed, start, then, Sized, Holds, holds, mode-same, mode-other, empty-mode}
 use Rattle.table.proofs.Judged.{lists-range}
-
--- a mode with an actor that it did not have
-module _ (M : Mode) (g : ProperMode M) (i : ℕ) (A : Actor) (hi : i < ACTORS) (free : Has (M .active) i → ⊥) where
-  -- who was active has another place
-  aside : (j : ℕ) → Has (M .active) j → actorAt (withActor M i A) j ≡ actorAt M j
-  aside j h = getD-set-other (M .actors) i j A noActor (λ e. free (subst (λ (k : ℕ). Has (M .active) k) e h))
-
-  actor-mode : ProperActor A → ProperMode (withActor M i A)
-  actor-mode pa =
-      record {
-        active = or-lt ACTORS (M .active) (2 ^ i) (g .active) (pow-lt hi);
-        actors-long = length-set (M .actors) i A ∙ g .actors-long;
-        channels-long = g .channels-long;
-        actor = λ j hj h. actor-at j hj (has-adding (M .active) i j .0 h);
-        no-actor = λ j hj n.
-            getD-set-other (M .actors) i j A noActor (λ e. n (has-adding (M .active) i j .1 (inl e)))
-            ∙ g .no-actor j hj (λ h. n (has-adding (M .active) i j .1 (inr h)));
-        count = g .count;
-        channel = λ k h.
-            let c = g .channel k h in
-            record {
-              from = c .from;
-              to = c .to;
-              from-active = has-adding (M .active) i (channelAt M k .from) .1 (inr (c .from-active));
-              to-active = has-adding (M .active) i (channelAt M k .to) .1 (inr (c .to-active));
-              production = subst (λ (a : Actor). ProperRates (a .phases) (channelAt M k .production)) (sym (aside (channelAt M k .from) (c .from-active))) (c .production);
-              consumption = subst (λ (a : Actor). ProperRates (a .phases) (channelAt M k .consumption)) (sym (aside (channelAt M k .to) (c .to-active))) (c .consumption);
-            };
-        no-channel = g .no-channel;
-      }
-    where
-      actor-at : (j : ℕ) → j < ACTORS → (j ≡ i) ⊎ Has (M .active) j → ProperActor (actorAt (withActor M i A) j)
-      actor-at j hj (inl e) = rw (e, getD-set-same (M .actors) i A noActor (omega (arith, g .actors-long))) pa
-      actor-at j hj (inr h) = rw (aside j h) (g .actor j hj h)
-
--- a mode with a channel that fits it
-channel-mode : (M : Mode) (c : Channel) → ProperMode M → M .count < CHANNELS → ProperChannel M c → ProperMode (withChannel M c)
-channel-mode M c g few pc =
-    record {
-      active = g .active;
-      actors-long = g .actors-long;
-      channels-long = length-set (M .channels) (M .count) c ∙ g .channels-long;
-      actor = g .actor;
-      no-actor = g .no-actor;
-      count = omega arith;
-      channel = λ k h. channel-at k h (ℕ-discrete k (M .count));
-      no-channel = λ k h l. getD-set-other (M .channels) (M .count) k c noChannel (λ e. omega arith) ∙ g .no-channel k h (omega arith);
-    }
-  where
-    still : (d : Channel) → ProperChannel M d → ProperChannel (withChannel M c) d
-    still d p = record { from = p .from; to = p .to; from-active = p .from-active; to-active = p .to-active; production = p .production; consumption = p .consumption }
-
-    channel-at : (k : ℕ) → k < M .count + 1 → Dec (k ≡ M .count) → ProperChannel (withChannel M c) (channelAt (withChannel M c) k)
-    channel-at k h (yes e) =
-        subst (ProperChannel (withChannel M c)) (sym (ap (λ (j : ℕ). channelAt (withChannel M c) j) e ∙ getD-set-same (M .channels) (M .count) c noChannel (omega (arith, g .channels-long)))) (still c pc)
-    channel-at k h (no n) =
-        subst (ProperChannel (withChannel M c)) (sym (getD-set-other (M .channels) (M .count) k c noChannel n)) (still (channelAt M k) (g .channel k (omega (arith, n))))
 
 -- all of a proper table except that it has an actor
 record Steady (t : Table) : Type 0 where
@@ -246,19 +188,6 @@ module _ {rs : List Row} (passed : Passed rs) (g : Steady (tableOf rs)) where
           (proper-rates xs r (omega (arith, lists-range passed l .2 .1)) (λ z. fit (p, w, c, l, inr z)))
 
 -- a table in which nothing is listed
-empty-proper : ProperMode emptyMode
-empty-proper =
-    record {
-      active = omega arith;
-      actors-long = length-replicate ACTORS noActor;
-      channels-long = length-replicate CHANNELS emptyChannel;
-      actor = λ i hi h. absurd (omega (arith, bit-zero i));
-      no-actor = λ i hi n. getD-replicate ACTORS i noActor noActor hi;
-      count = omega arith;
-      channel = λ k h. absurd (omega arith);
-      no-channel = λ k h l. getD-replicate CHANNELS k emptyChannel noChannel h;
-    }
-
 empty-steady : Steady emptyTable
 empty-steady =
     record {

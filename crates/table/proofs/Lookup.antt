@@ -1,24 +1,23 @@
 -- The table of some rows holds what they list. Assumes nothing.
 use mathlib.Core.Path.{_≡_, refl, sym, ap, subst, _∙_}
-use mathlib.Core.Bool.{Bool, true, false, _&&_, not, cond}
-use mathlib.Core.List.{List, [], _∷_, List·Memᴰ, List·Memᴰ·head, List·Memᴰ·tail}
+use mathlib.Core.Bool.{cond}
+use mathlib.Core.List.{List, [], _∷_, List·Memᴰ·head, List·Memᴰ·tail}
 use mathlib.Core.Logic.{_⊎_, inl, inr, _↔_}
-use Prim.Native.Nat.{ℕ, zero, suc, _+_, _-_, _≤_, _<_}
+use Prim.Native.Nat.{ℕ, _+_, _-_, _≤_, _<_}
 use native.Mathlib.Omega.{arith}
 use native.Mathlib.Decide.{ℕ-discrete}
-use lib.Dec.{eqb, leb, ltb}
-use lib.ListN.{length, getD, set, replicate, length-set, length-replicate, getD-replicate}
+use lib.Dec.{eqb}
+use lib.ListN.{length, getD, length-set, length-replicate, getD-replicate}
 use lib.Seq.{getD-set-same, getD-set-other}
 use borrow.Author.Tests.{eq-eqb, ne-eqb}
-use Rattle.numbers.specs.Bits.{bit, Has, adding, has-adding, bit-zero}
+use Rattle.numbers.specs.Bits.{Has, has-adding, bit-zero}
 use Rattle.terms.specs.Limits.{MODES, ACTORS, CHANNELS}
 use Rattle.graph.specs.declared.shape.Actor.{Actor}
 use Rattle.graph.specs.declared.shape.Mode.{Mode}
 use Rattle.graph.specs.declared.shape.Table.{Table}
 use Rattle.graph.specs.Shape.{noActor, noMode, emptyChannel, emptyMode, emptyTable, actorAt, modeAt, withActor, withChannel, withMode}
-use Rattle.table.specs.Rows.{Row, actor, channel, Between, InRange, Lists, Listed, channels, Refused3, Refused4, Refused5, Passes}
+use Rattle.table.specs.Rows.{Row, actor, channel, Between, InRange, Lists, Listed, channels, Passes}
 use Rattle.table.specs.Told.{padded, listing, tableOf}
-use Rattle.table.specs.Judge.{homesOf}
 
 -- rows that were read, the latest first: each in range, and none of the three refusals applies
 pub data Passed : List Row → Type 0 where

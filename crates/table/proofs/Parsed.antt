@@ -1,13 +1,13 @@
 -- The row that a record's fields list is the one row in range with their contents. Assumes nothing.
 use mathlib.Core.Path.{_≡_, refl, sym, ap, ap₂, subst, _∙_}
 use mathlib.Core.Bool.{Bool, true, false, _&&_, cond}
-use mathlib.Core.List.{List, [], _∷_, _++_}
+use mathlib.Core.List.{List, [], _∷_}
 use mathlib.Core.Logic.{_↔_}
-use Prim.Native.Nat.{ℕ, zero, suc, _≤_, _<_}
+use Prim.Native.Nat.{ℕ, zero, suc, _≤_}
 use native.Mathlib.Omega.{arith}
 use lib.Dec.{eqb}
-use lib.ListN.{length, getD}
-use borrow.Author.Tests.{eqb-true, eq-eqb}
+use lib.ListN.{length}
+use borrow.Author.Tests.{eqb-true}
 use Rattle.numbers.specs.Every.{Every}
 use Rattle.terms.specs.Limits.{MODES, ACTORS, PHASES, MOST-WCET, PROCESSORS}
 use Rattle.table.specs.declared.number.Number.{Number}
@@ -17,9 +17,9 @@ use Rattle.table.specs.Grammar.{Inside, nothing, byte, pair, Begins}
 use Rattle.table.specs.Decimal.{decimal, spaced}
 use Rattle.table.specs.Rows.{Row, actor, channel, Rates, InRange, contents, actorWord, channelWord}
 use Rattle.table.specs.Digits.{onNumber, numberOf, RateList, rates, none as no-list, onRates, ratesOf}
-use Rattle.table.specs.Judge.{same, kindOf, Parsed, row, none, fieldAt, actorOf, channelOf, byKind, parsedOf}
+use Rattle.table.specs.Judge.{same, Parsed, row, none, fieldAt, actorOf, channelOf, byKind, parsedOf}
 use Rattle.table.proofs.Records.{Means, as-is, undone, All, no-more, each, begins-found, begins-one}
-use Rattle.table.proofs.Written.{number-iff, rates-iff, decimal-one, spaced-one, decimal-plain, spaced-plain}
+use Rattle.table.proofs.Written.{number-iff, rates-iff, decimal-plain, spaced-plain}
 
 absurd-by : {A : Type 0} → _≡_ {A = ℕ} 0 1 → A
 absurd-by z = absurd (omega arith)

@@ -4,11 +4,10 @@ use mathlib.Core.Bool.{Bool, true, false, _&&_, not, cond}
 use mathlib.Core.List.{List, [], _∷_, map}
 use Prim.Native.Nat.{ℕ, zero, suc, _+_, _-_, _≤_, _<_}
 use native.Mathlib.Omega.{arith}
-use lib.Dec.{eqb, leb, ltb}
+use lib.Dec.{eqb, leb}
 use lib.ListN.{length, getD, set, drop, length-drop, drop-of-length-le}
 use lib.Seq.{set-getD}
 use borrow.Author.Tests.{eq-eqb, ne-eqb, lt-ltb, le-ltb}
-use Rattle.numbers.specs.Every.{Every}
 use Rattle.terms.specs.Limits.{MODES, ACTORS, MOST-BYTES, CHANNELS}
 use Rattle.graph.specs.declared.shape.Table.{Table}
 use Rattle.graph.specs.declared.shape.Mode.{Mode}
@@ -18,13 +17,12 @@ use Rattle.table.specs.declared.record.Record.{Record}
 use Rattle.table.specs.declared.row.Line.{Line}
 use Rattle.table.specs.declared.row.Listing.{Listing}
 use Rattle.table.specs.Rows.{Row, actor, channel, InRange}
-use Rattle.table.specs.Told.{Outcome, rows, refused, padded, listing, tableOf, readingOf, Told}
-use Rattle.table.specs.Digits.{rates, ratesIn}
-use Rattle.table.specs.Scan.{Cells, got, bad, cellsFrom, bytesOf, InText, RecordIs, Good}
+use Rattle.table.specs.Told.{rows, refused, tableOf, readingOf, Told}
+use Rattle.table.specs.Scan.{Cells, got, bad, cellsFrom, bytesOf, RecordIs, Good}
 use Rattle.numbers.specs.Bits.{hasb}
-use Rattle.table.specs.Judge.{Parsed, row, none, parsedOf, lineOf, refusal, suitsb, actorListed, channelListed, listed, homesOf, judged, onCells, onParsed, readFrom, readOf}
+use Rattle.table.specs.Judge.{Parsed, row, none, parsedOf, lineOf, refusal, suitsb, actorListed, channelListed, listed, homesOf, judged, onParsed, readFrom, readOf}
 use Rattle.table.proofs.Records.{RecordedAt, cells-recorded}
-use Rattle.table.proofs.Parsed.{Says, parsed-says}
+use Rattle.table.proofs.Parsed.{parsed-says}
 use Rattle.table.proofs.Lookup.{Passed, start, then}
 use Rattle.table.proofs.Judged.{Verdict, third, fourth, fifth, passes, verdict}
 use Rattle.table.proofs.Telling.{onward, onRecord, reads-record, begins-shorter, reads-of}

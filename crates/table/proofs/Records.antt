@@ -2,13 +2,12 @@
 use mathlib.Core.Path.{_≡_, refl, sym, ap, ap₂, subst, _∙_}
 use mathlib.Core.Bool.{Bool, true, false, cond}
 use mathlib.Core.List.{List, [], _∷_, _++_, append-assoc, append-nil}
-use mathlib.Core.Logic.{_⊎_, inl, inr}
-use Prim.Native.Nat.{ℕ, zero, suc, _+_, _-_, _≤_, _<_}
-use native.Mathlib.Nat.{suc-inj, not-suc-le-zero}
+use Prim.Native.Nat.{ℕ, zero, suc, _+_, _-_, _<_}
+use native.Mathlib.Nat.{suc-inj}
 use native.Mathlib.Numerals.{add-one}
 use native.Mathlib.Omega.{arith}
 use lib.Dec.{eqb, ltb}
-use lib.ListN.{length, take, drop, take-append-drop, length-append}
+use lib.ListN.{length, take, drop, take-append-drop}
 use lib.Seq.{take-append-seam, drop-append-seam, drop-append-add}
 use borrow.Author.Tests.{eqb-true, lt-ltb}
 use Rattle.numbers.specs.Every.{Every}
@@ -16,7 +15,7 @@ use Rattle.table.specs.declared.bytes.Class.{Class}
 use Rattle.table.specs.declared.bytes.Class.the-variants.{Text, Comma, Quote, Return, Feed, Other, Nothing}
 use Rattle.table.specs.Bytes.{classOf, classAt}
 use Rattle.table.specs.Grammar.{Inner, Inside, nothing, byte, pair, Field, plain, quoted, Record, one, more, Begins, ended, last}
-use Rattle.table.specs.Scan.{byClass, plainLen, Closed, after, never, further, inner, second, closed, Cut, cut, none, closedCut, plainCut, cellOf, Rest, to, stop, pastComma, pastReturn, pastEnd, pastAt, Cells, got, bad, onCut, onRest, ahead, cellsFrom}
+use Rattle.table.specs.Scan.{byClass, plainLen, Closed, after, never, further, inner, second, closed, Cut, cut, none, closedCut, plainCut, cellOf, Rest, to, stop, pastComma, pastEnd, pastAt, Cells, got, bad, onCut, onRest, ahead, cellsFrom}
 
 -- two cases of a type that differ
 absurd-by : {A : Type 0} → _≡_ {A = ℕ} 0 1 → A

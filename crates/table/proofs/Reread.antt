@@ -1,17 +1,15 @@
 -- Rows that passed, written as text, are read again. Assumes nothing.
-use mathlib.Core.Path.{_≡_, refl, sym, ap, subst, _∙_}
-use mathlib.Core.Bool.{Bool, true, false}
+use mathlib.Core.Path.{_≡_, refl, sym, ap, subst}
 use mathlib.Core.List.{List, [], _∷_, _++_, append-assoc, append-nil}
-use Prim.Native.Nat.{ℕ, suc, _≤_, _<_}
+use Prim.Native.Nat.{ℕ, _≤_, _<_}
 use native.Mathlib.Omega.{arith}
-use lib.Dec.{eqb, ltb}
 use lib.ListN.{length}
 use borrow.Author.Tests.{ne-eqb, le-ltb, lt-ltb}
 use Rattle.numbers.specs.Every.{Every}
 use Rattle.terms.specs.Limits.{MOST-BYTES}
 use Rattle.table.specs.declared.bytes.Class.the-variants.{Text}
 use Rattle.table.specs.Bytes.{classOf}
-use Rattle.table.specs.Grammar.{Field, plain, Record, one, more, Begins, ended}
+use Rattle.table.specs.Grammar.{plain, Record, one, more, Begins, ended}
 use Rattle.table.specs.Decimal.{decimal, spaced}
 use Rattle.table.specs.Rows.{Row, actor, channel, contents, actorWord, channelWord}
 use Rattle.table.specs.Told.{Outcome, rows, After, done, refused1, refused2, refused3, refused4, refused5, next, Of, right-length}

@@ -1,5 +1,5 @@
 -- Each public function's statement admits one answer only.
-use mathlib.Core.Path.{_≡_, sym, ap, _∙_}
+use mathlib.Core.Path.{sym, ap, _∙_}
 use Rattle.numbers.proofs.Settles.{Settles}
 use Rattle.table.specs.Told.{readingOf}
 use Rattle.table.proofs.Telling.{of-one}

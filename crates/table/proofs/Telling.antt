@@ -1,8 +1,8 @@
 -- The reader's model tells of a text what the rules tell, and the rules tell one thing. Assumes nothing.
-use mathlib.Core.Path.{_≡_, refl, sym, ap, subst, _∙_}
+use mathlib.Core.Path.{_≡_, refl, sym, subst, _∙_}
 use mathlib.Core.Bool.{Bool, true, false, cond}
-use mathlib.Core.List.{List, [], _∷_, _++_}
-use mathlib.Core.Logic.{_⊎_, inl, inr}
+use mathlib.Core.List.{List, [], _∷_}
+use mathlib.Core.Logic.{inl, inr}
 use Prim.Native.Nat.{ℕ, zero, suc, _≤_, _<_}
 use native.Mathlib.Nat.{le-refl}
 use native.Mathlib.Omega.{arith}
@@ -11,12 +11,12 @@ use lib.ListN.{length, length-append}
 use borrow.Author.Tests.{eqb-true, eqb-false, ltb-true, ltb-false, eq-eqb, ne-eqb, lt-ltb, le-ltb}
 use Rattle.terms.specs.Limits.{MOST-BYTES}
 use Rattle.table.specs.Grammar.{Begins, ended, last}
-use Rattle.table.specs.Rows.{Row, InRange, contents, Passes}
-use Rattle.table.specs.Told.{Outcome, rows, refused, After, done, refused1, refused2, refused3, refused4, refused5, next, Of, wrong-length, right-length}
+use Rattle.table.specs.Rows.{Row, InRange, contents}
+use Rattle.table.specs.Told.{Outcome, refused, After, done, refused1, refused2, refused3, refused4, refused5, next, Of, wrong-length, right-length}
 use Rattle.table.specs.Scan.{Cells, got, bad, cellsFrom, cellOf, plainLen, pastComma}
 use Rattle.table.specs.Judge.{Parsed, row, none, parsedOf, judged, onCells, onParsed, readFrom, readOf}
 use Rattle.table.proofs.Records.{RecordedAt, Recorded, cells-recorded, begins-found}
-use Rattle.table.proofs.Parsed.{Says, parsed-says, parsed-found, contents-six}
+use Rattle.table.proofs.Parsed.{parsed-says, parsed-found, contents-six}
 use Rattle.table.proofs.Lookup.{Passed, start, then}
 use Rattle.table.proofs.Judged.{Verdict, third, fourth, fifth, passes, verdict, verdict-third, verdict-fourth, verdict-fifth, verdict-passes}
 

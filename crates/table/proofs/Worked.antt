@@ -1,13 +1,12 @@
 -- Worked texts: the printed example, and texts that a careless reader takes or refuses for another reason. Assumes nothing.
-use mathlib.Core.Path.{_≡_, refl, subst, sym}
+use mathlib.Core.Path.{_≡_, refl, subst}
 use mathlib.Core.List.{List, [], _∷_}
-use Prim.Native.Nat.{ℕ}
 use Prim.Native.String.{String}
 use Rattle.numbers.specs.Bits.{bit}
 use Rattle.numbers.specs.Every.{Every}
 use Rattle.terms.specs.Text.{bytes}
 use Rattle.table.specs.Bytes.{classOf}
-use Rattle.table.specs.Rows.{Row, actor, channel}
+use Rattle.table.specs.Rows.{actor, channel}
 use Rattle.table.specs.Told.{Outcome, rows, refused, Of, tableOf}
 use Rattle.table.specs.Scan.{plainLen, closed, cellOf, pastComma, pastEnd, cellsFrom}
 use Rattle.table.specs.Digits.{digitOf, digits, written, numberOf, wordLen, ratesFrom, ratesOf}

@@ -6,10 +6,9 @@ use mathlib.Core.Logic.{_↔_}
 use Prim.Native.Nat.{ℕ, zero, suc, _+_, _-_, _*_, _/_, _%_, _≤_, _<_}
 use native.Mathlib.Nat.{not-suc-le-zero, le-refl}
 use native.Mathlib.Omega.{arith}
-use native.Mathlib.Decide.{decLt}
 use lib.Dec.{eqb, ltb}
 use lib.ListN.{length, take, drop, take-append-drop, length-append}
-use lib.Seq.{take-append-seam, drop-append-seam, take-length, drop-length}
+use lib.Seq.{take-append-seam, drop-append-seam}
 use borrow.Author.Tests.{ltb-true, ltb-false, lt-ltb, le-ltb, eqb-true, eqb-false, ne-eqb}
 use Rattle.numbers.specs.Every.{Every}
 use Rattle.terms.specs.Limits.{MOST-RATE}

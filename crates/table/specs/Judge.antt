@@ -1,15 +1,13 @@
 -- Model of the reader: what a record lists, how a row is judged, and the whole text.
-use mathlib.Core.Path.{_≡_}
 use mathlib.Core.Bool.{Bool, true, false, _&&_, not, cond}
 use mathlib.Core.List.{List, [], _∷_}
-use Prim.Native.Nat.{ℕ, zero, suc, _+_, _-_, _<_}
+use Prim.Native.Nat.{ℕ, zero, suc, _-_}
 use lib.Dec.{eqb, ltb, leb}
 use lib.ListN.{length, getD, set, replicate}
 use Rattle.numbers.specs.Bits.{hasb}
 use Rattle.terms.specs.Limits.{MODES, ACTORS, CHANNELS, PHASES, MOST-BYTES, MOST-WCET, PROCESSORS}
 use Rattle.graph.specs.declared.shape.Mode.{Mode}
-use Rattle.graph.specs.declared.shape.Table.{Table}
-use Rattle.graph.specs.Shape.{noActor, actorAt, modeAt, withActor, withChannel, withMode}
+use Rattle.graph.specs.Shape.{noActor, actorAt, modeAt, withActor, withChannel}
 use Rattle.table.specs.declared.row.Kind.{Kind}
 use Rattle.table.specs.declared.row.Kind.the-variants.{Actor, Channel, Bad}
 use Rattle.table.specs.declared.row.Line.{Line}
@@ -18,7 +16,7 @@ use Rattle.table.specs.declared.rates.Rates.{Rates}
 use Rattle.table.specs.Rows.{Row, actor, channel, actorWord, channelWord}
 use Rattle.table.specs.Told.{Outcome, rows, refused, tableOf}
 use Rattle.table.specs.Scan.{Cells, got, bad, cellsFrom}
-use Rattle.table.specs.Digits.{onNumber, numberOf, RateList, rates, none as noRates, onRates, ratesOf, ratesIn}
+use Rattle.table.specs.Digits.{onNumber, numberOf, rates, none as noRates, onRates, ratesOf, ratesIn}
 
 -- whether two texts are the same
 unfoldable pub same : List ℕ → List ℕ → Bool

@@ -3,7 +3,7 @@ ghost use mathlib.Core.Path.{_≡_};
 ghost use Prim.Native.Nat.{_+_, _≤_, _<_};
 ghost use mathlib.Core.Bool.{false};
 ghost use lib.ListN.{length, drop};
-ghost use Rattle.table.specs.Scan.{plainLen, closed, placed, cellOf, pastComma, pastEnd, pastAt, cellsFrom, FoundIs, StepIs, RecordIs, got};
+ghost use Rattle.table.specs.Scan.{plainLen, closed, placed, cellOf, pastComma, pastEnd, pastAt, cellsFrom, FoundIs, StepIs, RecordIs};
 use crate::bytes::Class;
 use crate::bytes::class_at;
 

@@ -1,7 +1,7 @@
 // Rows: what a record lists, and the mode with it.
 ghost use mathlib.Core.Path.{_≡_};
 ghost use mathlib.Core.List.{map};
-ghost use Prim.Native.Nat.{_^_, _<_, _≤_};
+ghost use Prim.Native.Nat.{_^_, _<_};
 ghost use Rattle.numbers.specs.Every.{Every};
 ghost use Rattle.terms.specs.Limits.{ACTORS as ACTORS-LIMIT, CHANNELS as CHANNELS-LIMIT};
 ghost use Rattle.graph.specs.Shape.{noActor as noActorOf, emptyTable};
@@ -24,7 +24,7 @@ use terms::limits::ACTORS;
 use terms::limits::CHANNELS;
 use terms::limits::MODES;
 use terms::limits::PHASES;
-use terms::units::Tick;
+use units::Tick;
 
 enum Kind {
     Actor,

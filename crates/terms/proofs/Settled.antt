@@ -1,5 +1,5 @@
 -- Each public function's statement admits one answer only.
-use mathlib.Core.Path.{_≡_, sym, _∙_}
+use mathlib.Core.Path.{sym, _∙_}
 use Rattle.numbers.proofs.Settles.{Settles}
 use Rattle.numbers.specs.Decides.{decides-unique}
 use Rattle.terms.specs.Period.{firing-unique, within-unique, common-unique}
@@ -24,10 +24,6 @@ use Rattle.terms.proofs.period.period.Kinds as period-kinds
 use Rattle.terms.proofs.period.period.Reads as period
 use Rattle.terms.proofs.period.part.Kinds as part-kinds
 use Rattle.terms.proofs.period.part.Reads as part
-use Rattle.terms.proofs.units.Tick.later.Kinds as later-kinds
-use Rattle.terms.proofs.units.Tick.later.Reads as later
-use Rattle.terms.proofs.units.Tick.plus.Kinds as plus-kinds
-use Rattle.terms.proofs.units.Tick.plus.Reads as plus
 use Rattle.terms.proofs.period.common.Kinds as common-kinds
 use Rattle.terms.proofs.period.common.Reads as common
 use Rattle.terms.proofs.rate.even.Kinds as even-kinds
@@ -64,12 +60,6 @@ period-settled κs a x y s t p q = p ∙ sym q
 
 part-settled : Settles 0 part-kinds.ps part-kinds.r part.Post
 part-settled κs a x y s t p q = p ∙ sym q
-
-later-settled : Settles 0 later-kinds.ps later-kinds.r later.Post
-later-settled κs a x y s t p q = p ∙ sym q
-
-plus-settled : Settles 0 plus-kinds.ps plus-kinds.r plus.Post
-plus-settled κs a x y s t p q = p ∙ sym q
 
 common-settled : Settles 0 common-kinds.ps common-kinds.r common.Post
 common-settled κs a x y s t p q = common-unique _ _ _ x y p q

@@ -1,6 +1,5 @@
 -- The words and the two rules that the statements of the planner use.
 pub mod Limits
-pub mod Units
 pub mod Period
 pub mod Rate
 pub mod Reckoned

@@ -8,12 +8,12 @@ use Rattle.numbers.specs.Extreme.{First, first-unique, least-unique}
 use Rattle.numbers.specs.Multiples.{lcm-unique}
 use Rattle.numbers.specs.Quotient.{RoundedUp}
 use Rattle.numbers.specs.declared.fraction.Fraction.{Fraction}
+use Rattle.units.specs.declared.Tick.{Tick}
+use Rattle.units.specs.declared.Firing.{Firing}
 use Rattle.terms.specs.declared.period.Firings.{Firings}
 use Rattle.terms.specs.declared.period.Firings.the-variants.{Are, Above}
 use Rattle.terms.specs.declared.period.Length.{Length}
 use Rattle.terms.specs.declared.period.Length.the-variants.{Is, Above as TooLong}
-use Rattle.terms.specs.declared.units.Tick.{Tick}
-use Rattle.terms.specs.declared.units.Firing.{Firing}
 
 -- firing k, and the firing after n
 abbrev pub firing : ℕ → Firing

@@ -8,8 +8,8 @@ use native.Mathlib.Omega.{arith}
 use Rattle.numbers.specs.Common.{IsGcd}
 use Rattle.numbers.specs.Euclid.{gcd-pos, euclid}
 use Rattle.numbers.specs.Sum.{sum, sum-rounds}
-use Rattle.terms.specs.declared.units.Firing.{Firing}
-use Rattle.terms.specs.declared.units.Token.{Token}
+use Rattle.units.specs.declared.Firing.{Firing}
+use Rattle.units.specs.declared.Token.{Token}
 use Rattle.terms.specs.declared.rate.Meeting.{Meeting}
 
 -- the rate of firing k, by a list that has one rate for each phase and is used cyclically

@@ -5,18 +5,17 @@ use Prim.Native.Nat.{ℕ, _*_, _/_, _<_}
 use native.Mathlib.Nat.{lt-of-lt-of-le, le-of-eq}
 use borrow.Author.Tests.{leb-true, leb-false}
 use lib.Dec.{leb}
-use Rattle.numbers.specs.Extreme.{least-unique}
 use Rattle.numbers.specs.Multiples.{lcm-unique}
 use Rattle.numbers.specs.Reckoned.{gcdOf, gcd-of, lcmOf, lcm-of, roundedOf, rounded-of}
-use Rattle.terms.specs.declared.units.Tick.{Tick}
-use Rattle.terms.specs.declared.units.Firing.{Firing}
-use Rattle.terms.specs.declared.units.Token.{Token}
+use Rattle.units.specs.declared.Tick.{Tick}
+use Rattle.units.specs.declared.Firing.{Firing}
+use Rattle.units.specs.declared.Token.{Token}
+use Rattle.units.specs.Ticks.{tick}
 use Rattle.terms.specs.declared.period.Firings.{Firings}
 use Rattle.terms.specs.declared.period.Firings.the-variants.{Are, Above}
 use Rattle.terms.specs.declared.period.Length.{Length}
 use Rattle.terms.specs.declared.period.Length.the-variants.{Is, Above as TooLong}
 use Rattle.terms.specs.declared.rate.Meeting.{Meeting}
-use Rattle.terms.specs.Units.{tick}
 use Rattle.terms.specs.Period.{firing, CommonWithin, IterationWithin, common-unique, within-unique, iteration-unique}
 use Rattle.terms.specs.Rate.{times, Meets, meets-unique, meets-reduced}
 

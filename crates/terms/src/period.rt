@@ -1,10 +1,10 @@
 // The period rule, between ticks and firings.
-use crate::units::Firing;
-use crate::units::Tick;
 use numbers::common::Multiple;
 use numbers::common::lcm;
 use numbers::fraction::Fraction;
 use numbers::quotient::rounded_up;
+use units::Firing;
+use units::Tick;
 ghost use mathlib.Core.Path.{_≡_};
 ghost use Prim.Native.Nat.{_+_, _^_, _<_};
 ghost use Rattle.terms.specs.Period.{beginsAt, endsAt, HaveBegun, HaveEnded, CommonWithin, IterationWithin, periodOf, partOf};

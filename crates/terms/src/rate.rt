@@ -1,7 +1,7 @@
 // The rate rule, between firings and tokens.
-use crate::units::Firing;
-use crate::units::Token;
 use numbers::common::gcd;
+use units::Firing;
+use units::Token;
 ghost use mathlib.Core.Path.{_≡_};
 ghost use Prim.Native.Nat.{_*_, _^_, _<_, _≤_};
 ghost use lib.ListN.{length};

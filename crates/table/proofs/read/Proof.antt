@@ -1,16 +1,12 @@
 -- table::read meets its contract. The invariant: the rows before the place were read, and what is told of the text is told of the rest after them. Assumes nothing.
-use borrow.Author.Needs.{needs}
 use borrow.Author.Tests.{not-true, not-false}
 use mathlib.Core.Path.{_≡_, refl, sym, ap, subst, _∙_}
-use mathlib.Core.Bool.{Bool, true, false, not}
 use Prim.Native.Nat.{_+_, _-_, _<_}
 use native.Mathlib.Omega.{arith}
-use lib.ListN.{length, getD, set, length-drop}
+use lib.ListN.{length, getD, set}
 use Rattle.table.specs.declared.record.Record.{Record}
 use Rattle.table.specs.declared.row.Line.{Line}
-use Rattle.table.specs.declared.row.Listing.{Listing}
-use Rattle.table.specs.declared.Reading.{Reading}
-use Rattle.table.specs.Told.{Outcome, readingOf}
+use Rattle.table.specs.Told.{readingOf}
 use Rattle.table.specs.Judge.{lineOf, listed, homesOf}
 use Rattle.graph.specs.declared.shape.Table.{Table}
 use Rattle.table.specs.declared.Answer.the-variants.{Read}

@@ -1,13 +1,10 @@
 -- numbers::bits::has meets its contract. Assumes nothing.
-use mathlib.Core.Path.{_≡_, ap, sym, _∙_}
-use Prim.Native.Nat.{ℕ, _/_, _%_, _^_, _<_}
+use Prim.Native.Nat.{_/_, _^_}
 use borrow.Author.Needs.{needs}
 use native.Mathlib.Omega.{arith}
-use lib.Bits.{bitAnd, and-mask}
-use lib.Dec.{eqb, T}
-use borrow.Author.Tests.{eqb-true, eq-eqb}
+use lib.Bits.{and-mask}
 use Rattle.numbers.specs.Bits.{bit, bit-shift, bit-out, Has}
-use Rattle.numbers.specs.Decides.{Decides, decides-no, decides-eqb}
+use Rattle.numbers.specs.Decides.{decides-no, decides-eqb}
 use Rattle.numbers.proofs.bits.has.Statement.{statement}
 use Rattle.numbers.proofs.bits.has.Tie as tie
 

@@ -1,5 +1,5 @@
 -- numbers::bits::without meets its contract. Assumes nothing.
-use mathlib.Core.Path.{_≡_, ap, _∙_}
+use mathlib.Core.Path.{_≡_, _∙_}
 use Prim.Native.Nat.{ℕ, _*_, _%_, _^_, _≤_}
 use native.Mathlib.Nat.{one-mul, zero-mul, sub-zero}
 use native.Mathlib.Omega.{arith}

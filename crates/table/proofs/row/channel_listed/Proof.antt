@@ -2,7 +2,7 @@
 use borrow.Author.Needs.{needs}
 use borrow.Author.Tests.{le-leb, lt-leb}
 use mathlib.Core.Path.{_≡_, sym, ap, _∙_}
-use mathlib.Core.Bool.{false, not, cond}
+use mathlib.Core.Bool.{false, not}
 use lib.Dec.{leb}
 use Rattle.terms.specs.Limits.{CHANNELS}
 use Rattle.numbers.specs.Bits.{hasb}

@@ -1,5 +1,5 @@
 -- terms::period::ends meets its contract. Assumes nothing.
-use mathlib.Core.Path.{_≡_, sym}
+use mathlib.Core.Path.{_≡_}
 use Prim.Native.Nat.{ℕ, _+_, _*_}
 use native.Mathlib.Omega.{arith}
 use Rattle.terms.proofs.period.ends.Statement.{statement}

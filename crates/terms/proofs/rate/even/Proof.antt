@@ -2,7 +2,7 @@
 use mathlib.Core.Path.{ap}
 use borrow.Author.Needs.{needs}
 use Rattle.numbers.specs.Decides.{decides-eqb}
-use Rattle.terms.specs.declared.units.Token.{Token}
+use Rattle.units.specs.declared.Token.{Token}
 use Rattle.terms.proofs.rate.even.Statement.{statement}
 use Rattle.terms.proofs.rate.even.Tie as tie
 

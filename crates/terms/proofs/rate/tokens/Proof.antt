@@ -1,7 +1,7 @@
 -- terms::rate::tokens meets its contract. Assumes nothing.
 use borrow.Author.Needs.{needs}
-use mathlib.Core.Path.{_≡_, sym, ap₂, _∙_}
-use Prim.Native.Nat.{ℕ, _+_, _*_, _/_, _%_, _≤_, _<_}
+use mathlib.Core.Path.{sym, ap₂, _∙_}
+use Prim.Native.Nat.{ℕ, _+_, _*_, _/_, _%_, _≤_}
 use native.Mathlib.Nat.{div-add-mod', mul-le-mul-left, mod-lt, pos-of-ne-zero, le-of-lt}
 use native.Mathlib.Omega.{arith}
 use lib.ListN.{length}

@@ -1,0 +1,12 @@
+-- What the proofs lean on.
+pub mod Sorted
+mod Bounds
+mod Entries
+mod Flows
+mod Multiples
+mod Lasting
+mod Shared
+mod Judging
+mod Unique
+mod Settled
+mod Worked

@@ -1,0 +1,164 @@
+-- The shares and loads that are found: the ticks that each processor works, and the lowest processor whose load is above the limit. Assumes nothing.
+use mathlib.Core.Path.{_≡_, refl, sym, ap, _∙_}
+use mathlib.Core.Bool.{Bool, true, false, cond, not, _&&_}
+use mathlib.Core.List.{List}
+use mathlib.Core.Logic.{⊎-elim, _↔_}
+use Prim.Native.Nat.{ℕ, zero, suc, _+_, _-_, _*_, _≤_, _<_}
+use native.Mathlib.Nat.{le-refl, lt-of-lt-of-le, lt-of-not-le}
+use native.Mathlib.Numerals.{add-one}
+use native.Mathlib.Omega.{arith}
+use native.Mathlib.Decide.{decLe}
+use lib.Dec.{eqb}
+use lib.ListN.{getD}
+use Rattle.numbers.specs.Bits.{hasb, has-decides}
+use Rattle.numbers.specs.Decides.{Decides, decides-unique, decides-leb, decides-not, decides-true, decides-false}
+use Rattle.numbers.specs.Extreme.{Least}
+use Rattle.numbers.specs.Fraction.{Proper, AtMost, Same, sum-proper, sum-common, same-at-most}
+use Rattle.numbers.specs.declared.fraction.Fraction.{Fraction}
+use Rattle.numbers.specs.Lowest.{FirstPasses, NonePasses, lowestOr, lowest-next, lowest-none, lowest-is, sought}
+use Rattle.numbers.specs.Sum.{sum}
+use Rattle.numbers.specs.Tab.{tab, getD-tab, tab-same}
+use Rattle.units.specs.declared.Tick.{Tick}
+use Rattle.units.specs.Ticks.{tick, plusOf}
+use Rattle.terms.specs.Limits.{ACTORS, PHASES, MOST-WCET, PROCESSORS, ITERATION-LIMIT, LOAD-LIMIT}
+use Rattle.terms.specs.Period.{partOf}
+use Rattle.graph.specs.declared.shape.Actor.{Actor}
+use Rattle.graph.specs.declared.shape.Mode.{Mode}
+use Rattle.graph.specs.Shape.{noActor, actorAt}
+use Rattle.graph.specs.Proper.{ProperMode}
+use Rattle.graph.specs.Balance.{Iteration, firingsOf, workOf}
+use Rattle.graph.specs.Load.{isOn, askedBy, nothing, loadOf, Overloaded, shareOf}
+use Rattle.graph.specs.Laws.{iteration-pos, period-whole, period-fits}
+use Rattle.graph.specs.Counts.{Counted}
+use Rattle.graph.specs.Lengths.{Light, firingsIn, worksIn, shareFrom, sharesIn, atMostb, overloadedOf}
+use Rattle.graph.proofs.Lasting.{works-at}
+
+-- the test of two fractions answers whether one is at most the other
+pub at-most-decides : (a b : Fraction) → Decides (AtMost a b) (atMostb a b)
+at-most-decides a b = decides-leb (a .over * b .under) (b .over * a .under)
+
+-- whether the load of processor p is found to be above the limit
+abbrev pub overb : List Tick → Tick → ℕ → Bool
+overb shares h p = not (atMostb (partOf (getD shares (p - 1) (tick 0)) h) LOAD-LIMIT)
+
+-- one processor more, as a loop counts
+pub over-next : (shares : List Tick) (h : Tick) (p : ℕ) (a : Fraction) (r : Bool) → p < PROCESSORS → a ≡ partOf (getD shares p (tick 0)) h → Decides (AtMost a LOAD-LIMIT) r
+    → lowestOr (overb shares h) 0 (suc PROCESSORS - (p + 1)) (p + 1)
+    ≡ cond (not r) (p + 1) (lowestOr (overb shares h) 0 (suc PROCESSORS - (p + 1 + 1)) (p + 1 + 1))
+over-next shares h p a r l e d =
+    let test : atMostb (partOf (getD shares (p + 1 - 1) (tick 0)) h) LOAD-LIMIT ≡ r
+    = ap (λ (n : ℕ). atMostb (partOf (getD shares n (tick 0)) h) LOAD-LIMIT) (omega arith)
+    ∙ ap (λ (f : Fraction). atMostb f LOAD-LIMIT) (sym e)
+    ∙ decides-unique (atMostb a LOAD-LIMIT) r (at-most-decides a LOAD-LIMIT) d in
+    lowest-next (overb shares h) 0 (suc PROCESSORS) (p + 1) (omega arith) ∙ rw test
+
+-- one actor more, as a loop counts
+pub share-next : (acts : List Actor) (ws : List Tick) (p n : ℕ)
+    → shareFrom acts ws p (n + 1) ≡ cond (eqb (getD acts n noActor .processor) p) (plusOf (shareFrom acts ws p n) (getD ws n (tick 0))) (shareFrom acts ws p n)
+unfolding shareFrom
+share-next acts ws p n = rw add-one
+
+-- the share of n actors is at most n works
+pub share-most : (acts : List Actor) (ws : List Tick) (p : ℕ) → Light ws → (n : ℕ) → shareFrom acts ws p n .0 ≤ n * (PHASES * ITERATION-LIMIT * MOST-WCET)
+unfolding shareFrom
+share-most acts ws p light zero = omega arith
+share-most acts ws p light (suc n) = go (eqb (getD acts n noActor .processor) p) (share-most acts ws p light n)
+  where
+    go : (b : Bool) → shareFrom acts ws p n .0 ≤ n * (PHASES * ITERATION-LIMIT * MOST-WCET)
+        → cond b (plusOf (shareFrom acts ws p n) (getD ws n (tick 0))) (shareFrom acts ws p n) .0 ≤ suc n * (PHASES * ITERATION-LIMIT * MOST-WCET)
+    go true h = omega (arith, light .light n)
+    go false h = omega arith
+
+module _ (m : Mode) (proper : ProperMode m) (x : List ℕ) (counted : Counted m x) where
+  abbrev X : ℕ → ℕ
+  X i = getD x i 0
+
+  abbrev ws : List Tick
+  ws = worksIn (m .actors) (firingsIn (m .actors) x)
+
+  abbrev shares : List Tick
+  shares = sharesIn (m .actors) ws
+
+  -- of an actor that is not active there is no work
+  no-work : (i : ℕ) → i < ACTORS → hasb (m .active) i ≡ false → workOf m X i .0 ≡ 0
+  no-work i l e = omega (arith, ap (λ (a : Actor). firingsOf m X i .0 * a .wcet .0) (proper .no-actor i l (decides-false (has-decides (m .active) i) e)))
+
+  share-is : (p n : ℕ) → n ≤ ACTORS → shareFrom (m .actors) ws p n .0 ≡ sum (λ i. cond (isOn m p i) (workOf m X i .0) 0) n
+  unfolding shareFrom sum
+  share-is p zero h = refl
+  share-is p (suc n) h = go (hasb (m .active) n) refl (eqb (actorAt m n .processor) p) (share-is p n (omega arith))
+    where
+      go : (a : Bool) → hasb (m .active) n ≡ a → (b : Bool) → shareFrom (m .actors) ws p n .0 ≡ sum (λ i. cond (isOn m p i) (workOf m X i .0) 0) n
+          → cond b (plusOf (shareFrom (m .actors) ws p n) (getD ws n (tick 0))) (shareFrom (m .actors) ws p n) .0
+          ≡ sum (λ i. cond (isOn m p i) (workOf m X i .0) 0) n + cond (a && b) (workOf m X n .0) 0
+      go true e true ih = rw (works-at m proper x counted n h) (omega arith)
+      go true e false ih = omega arith
+      go false e true ih = rw (works-at m proper x counted n h) (omega (arith, no-work n h e))
+      go false e false ih = omega arith
+
+  pub shares-are : shares ≡ tab PROCESSORS (λ p. shareOf m X (suc p))
+  shares-are =
+      tab-same PROCESSORS (λ p. shareFrom (m .actors) ws (suc p) ACTORS) (λ p. shareOf m X (suc p))
+      (λ p l. λ i. tick (share-is (suc p) ACTORS (le-refl ACTORS) i))
+
+  module _ (h : Tick) (iteration : Iteration m X h) (p : ℕ) where
+    -- what an actor asks of its processor is its work, as a part of the iteration
+    asked-same : (i : ℕ) → i < ACTORS → Same (cond (isOn m p i) (askedBy m X h i) nothing) (record { over = cond (isOn m p i) (workOf m X i .0) 0; under = h .0 })
+    asked-same i l = go (hasb (m .active) i) refl (eqb (actorAt m i .processor) p)
+      where
+        go : (a : Bool) → hasb (m .active) i ≡ a → (b : Bool) → Same (cond (a && b) (askedBy m X h i) nothing) (record { over = cond (a && b) (workOf m X i .0) 0; under = h .0 })
+        go true e true =
+            omega (arith, ap (λ (t : ℕ). actorAt m i .wcet .0 * t) (period-whole m X iteration i (l, decides-true (has-decides (m .active) i) e)))
+        go true e false = omega arith
+        go false e b = omega arith
+
+    asked-proper : (i : ℕ) → i < ACTORS → Proper (cond (isOn m p i) (askedBy m X h i) nothing)
+    asked-proper i l = go (hasb (m .active) i) refl (eqb (actorAt m i .processor) p)
+      where
+        go : (a : Bool) → hasb (m .active) i ≡ a → (b : Bool) → Proper (cond (a && b) (askedBy m X h i) nothing)
+        go true e true =
+            let a = decides-true (has-decides (m .active) i) e in
+            lt-of-lt-of-le (proper .actor i l a .some-tick) (period-fits m proper X (counted .some) iteration i (l, a))
+        go true e false = omega arith
+        go false e b = omega arith
+
+    -- so a load is within the limit exactly when the share is
+    load-share : AtMost (loadOf m X h p) LOAD-LIMIT ↔ AtMost (partOf (shareOf m X p) h) LOAD-LIMIT
+    load-share =
+        same-at-most (loadOf m X h p) (partOf (shareOf m X p) h) LOAD-LIMIT
+        (sum-proper (λ i. cond (isOn m p i) (askedBy m X h i) nothing) ACTORS asked-proper)
+        (iteration-pos m proper X (counted .some) iteration)
+        (sum-common (λ i. cond (isOn m p i) (askedBy m X h i) nothing) (λ i. cond (isOn m p i) (workOf m X i .0) 0) (h .0) ACTORS asked-same)
+
+    -- the test answers whether a processor is overloaded
+    over-is : 1 ≤ p → p ≤ PROCESSORS → Decides (Overloaded m X h p) (overb shares h p)
+    over-is some most =
+        let s : getD shares (p - 1) (tick 0) ≡ shareOf m X p
+        = getD-tab PROCESSORS (λ p. shareFrom (m .actors) ws (suc p) ACTORS) (p - 1) (tick 0) (omega arith)
+        ∙ (λ i. tick (share-is (suc (p - 1)) ACTORS (le-refl ACTORS) i))
+        ∙ ap (shareOf m X) (omega arith) in
+        let d = decides-not (atMostb (partOf (getD shares (p - 1) (tick 0)) h) LOAD-LIMIT) (at-most-decides (partOf (getD shares (p - 1) (tick 0)) h) LOAD-LIMIT) in (
+          (λ t. record { some = some; processor = most; above = λ a. d .0 t (rw s (load-share .0 a)) }),
+          (λ o. d .1 (λ a. o .above (load-share .1 (rw s at a)))),
+        )
+
+  module _ (h : Tick) (iteration : Iteration m X h) where
+    none-over : NonePasses (overb shares h) PROCESSORS 1 → (p : ℕ) → Overloaded m X h p → ⊥
+    none-over n p o = decides-false (over-is h iteration p (o .some) (o .processor)) (n p (o .some) (omega (arith, o .processor))) o
+
+    pub loads-fine : overloadedOf shares h ≡ 0 → (p : ℕ) → Overloaded m X h p → ⊥
+    loads-fine e = ⊎-elim (λ (j, f). absurd (omega (arith, f .from, lowest-is (overb shares h) 0 PROCESSORS 1 j f))) none-over (sought (overb shares h) PROCESSORS 1)
+
+    pub loads-over : (overloadedOf shares h ≡ 0 → ⊥) → Least (Overloaded m X h) (overloadedOf shares h)
+    loads-over n = ⊎-elim least (λ z. absurd (n (lowest-none (overb shares h) 0 PROCESSORS 1 z))) (sought (overb shares h) PROCESSORS 1)
+      where
+        least : (j : ℕ) × FirstPasses (overb shares h) PROCESSORS 1 j → Least (Overloaded m X h) (overloadedOf shares h)
+        least (j, f) =
+            rw (lowest-is (overb shares h) 0 PROCESSORS 1 j f) (record {
+              holds = decides-true (over-is h iteration j (f .from) (omega (arith, f .below))) (f .passes);
+              least = λ p o. go p o (decLe j p);
+            })
+          where
+            go : (p : ℕ) → Overloaded m X h p → Dec (j ≤ p) → j ≤ p
+            go p o (yes l) = l
+            go p o (no g) = absurd (decides-false (over-is h iteration p (o .some) (o .processor)) (f .first p (o .some) (lt-of-not-le g)) o)

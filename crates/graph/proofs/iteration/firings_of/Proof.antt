@@ -1,0 +1,50 @@
+-- graph::iteration::firings_of meets its contract. The invariant: the firings of the actors below i are set. Assumes nothing.
+use borrow.Author.Needs.{needs}
+use mathlib.Core.Path.{refl}
+use Prim.Native.Nat.{_≤_, _-_, _*_}
+use native.Mathlib.Nat.{mul-le-mul}
+use native.Mathlib.Omega.{arith}
+use lib.ListN.{getD}
+use Rattle.numbers.specs.Tab.{Filled, filled-none, filled-set, filled-all}
+use Rattle.terms.specs.Limits.{ACTORS}
+use Rattle.terms.specs.Period.{firing}
+use Rattle.graph.specs.Shape.{noActor}
+use Rattle.graph.proofs.iteration.firings_of.Statement.{statement}
+use Rattle.graph.proofs.iteration.firings_of.Tie as tie
+
+abbrev Inv-loop : tie.InvT-loop
+Inv-loop actors counts firings₀ i₀ firings i = (i ≤ ACTORS) × Filled ACTORS (λ k. firing (getD actors k noActor .phases * getD counts k 0)) (firing 0) firings i
+
+abbrev μ-loop : tie.MeasureT-loop
+μ-loop actors counts firings₀ i₀ firings i = ACTORS - i
+
+-- a product fits
+mul-t18 : tie.Need-mul-t18 Inv-loop μ-loop
+mul-t18 c =
+    let i = c .before .before .loop .i in
+    let (fitting, small) = c .before .before .before .pre in
+    omega (arith, mul-le-mul (fitting .phases i) (small .small i))
+
+loop-again : tie.Need-loop-again Inv-loop μ-loop
+loop-again c =
+    let l = c .before .before .loop in
+    (omega arith, filled-set ACTORS _ (firing 0) _ (l .i) _ (omega arith) refl (l .inv .1))
+
+pub firings-of-spec : {M : Type 1} → statement M
+firings-of-spec =
+    tie.close
+    (tie.spec
+    Inv-loop
+    μ-loop
+    (λ c. (omega arith, filled-none ACTORS _ (firing 0)))
+    (λ c. search needs)
+    (λ c. search needs)
+    (λ c. search needs)
+    (λ c. search needs)
+    mul-t18
+    (λ c. search needs)
+    (λ c. search needs)
+    (λ c. omega arith)
+    (λ c. omega arith)
+    loop-again
+    (λ c. filled-all ACTORS _ (firing 0) _ (c .before .loop .i) (omega arith) (c .before .loop .inv .1)))

@@ -1,0 +1,49 @@
+-- graph::iteration::works_of meets its contract. The invariant: the works of the actors below i are set. Assumes nothing.
+use borrow.Author.Needs.{needs}
+use Prim.Native.Nat.{_≤_, _-_}
+use native.Mathlib.Nat.{mul-le-mul}
+use native.Mathlib.Omega.{arith}
+use lib.ListN.{getD}
+use Rattle.numbers.specs.Tab.{Filled, filled-none, filled-set, filled-all}
+use Rattle.units.specs.Ticks.{tick}
+use Rattle.terms.specs.Limits.{ACTORS}
+use Rattle.terms.specs.Period.{firing, beginsAt}
+use Rattle.graph.specs.Shape.{noActor}
+use Rattle.graph.proofs.iteration.works_of.Statement.{statement}
+use Rattle.graph.proofs.iteration.works_of.Tie as tie
+
+abbrev Inv-loop : tie.InvT-loop
+Inv-loop actors firings works₀ i₀ works i = (i ≤ ACTORS) × Filled ACTORS (λ k. beginsAt (tick 0) (getD actors k noActor .wcet) (getD firings k (firing 0))) (tick 0) works i
+
+abbrev μ-loop : tie.MeasureT-loop
+μ-loop actors firings works₀ i₀ works i = ACTORS - i
+
+begins-requires : tie.Need-begins-requires Inv-loop μ-loop
+begins-requires c κs =
+    let i = c .before .before .before .loop .i in
+    let (fitting, few) = c .before .before .before .before .pre in
+    omega (arith, mul-le-mul (few .few i) (fitting .wcet i))
+
+loop-again : tie.Need-loop-again Inv-loop μ-loop
+loop-again c =
+    let l = c .before .before .before .before .loop in
+    (omega arith, filled-set ACTORS _ (tick 0) _ (l .i) _ (omega arith) (c .begins .ensures) (l .inv .1))
+
+pub works-of-spec : {M : Type 1} → statement M
+works-of-spec =
+    tie.close
+    (tie.spec
+    Inv-loop
+    μ-loop
+    (λ c. (omega arith, filled-none ACTORS _ (tick 0)))
+    (λ c. search needs)
+    (λ c. search needs)
+    (λ c. search needs)
+    (λ c. search needs)
+    begins-requires
+    (λ c. search needs)
+    (λ c. search needs)
+    (λ c. omega arith)
+    (λ c. omega arith)
+    loop-again
+    (λ c. filled-all ACTORS _ (tick 0) _ (c .before .loop .i) (omega arith) (c .before .loop .inv .1)))

@@ -1,0 +1,40 @@
+-- The load of a processor: the sum of wcet / T over its actors, as exact fractions.
+use mathlib.Core.Bool.{Bool, cond, _&&_}
+use Prim.Native.Nat.{ℕ, _≤_}
+use lib.Dec.{eqb}
+use Rattle.numbers.specs.Bits.{hasb}
+use Rattle.numbers.specs.Sum.{sum}
+use Rattle.numbers.specs.Fraction.{sumOf, AtMost}
+use Rattle.numbers.specs.declared.fraction.Fraction.{Fraction}
+use Rattle.units.specs.declared.Tick.{Tick}
+use Rattle.units.specs.Ticks.{tick}
+use Rattle.terms.specs.Limits.{ACTORS, PROCESSORS, LOAD-LIMIT}
+use Rattle.terms.specs.Period.{periodOf, partOf}
+use Rattle.graph.specs.declared.shape.Mode.{Mode}
+use Rattle.graph.specs.Shape.{actorAt}
+use Rattle.graph.specs.Balance.{firingsOf, workOf}
+
+-- actor i is active on processor p
+abbrev pub isOn : Mode → ℕ → ℕ → Bool
+isOn m p i = hasb (m .active) i && eqb (actorAt m i .processor) p
+
+-- what an actor asks of its processor: wcet / T
+abbrev pub askedBy : Mode → (ℕ → ℕ) → Tick → ℕ → Fraction
+askedBy m x h i = partOf (actorAt m i .wcet) (periodOf h (firingsOf m x i))
+
+abbrev pub nothing : Fraction
+nothing = record { over = 0; under = 1 }
+
+-- the load of processor p
+abbrev pub loadOf : Mode → (ℕ → ℕ) → Tick → ℕ → Fraction
+loadOf m x h p = sumOf (λ i. cond (isOn m p i) (askedBy m x h i) nothing) ACTORS
+
+-- Refusal 9: a processor's load is above the limit.
+pub record Overloaded (m : Mode) (x : ℕ → ℕ) (h : Tick) (p : ℕ) : Type 0 where
+  pub some : 1 ≤ p
+  pub processor : p ≤ PROCESSORS
+  pub above : AtMost (loadOf m x h p) LOAD-LIMIT → ⊥
+
+-- the ticks of an iteration that processor p works
+abbrev pub shareOf : Mode → (ℕ → ℕ) → ℕ → Tick
+shareOf m x p = tick (sum (λ i. cond (isOn m p i) (workOf m x i .0) 0) ACTORS)

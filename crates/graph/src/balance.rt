@@ -1,0 +1,161 @@
+// The smallest cycle counts that balance a mode's channels.
+use crate::shape::Actor;
+use crate::shape::Channel;
+use crate::shape::Mode;
+use numbers::bits::has;
+use terms::limits::ACTORS;
+use terms::limits::ITERATION_LIMIT;
+use terms::limits::PHASES;
+use terms::rate;
+use units::Firing;
+use units::Token;
+ghost use mathlib.Core.Path.{_≡_};
+ghost use Prim.Native.Nat.{_*_, _<_, _≤_};
+ghost use lib.ListN.{length};
+ghost use Rattle.terms.specs.Limits.{ACTORS, PHASES};
+ghost use Rattle.graph.specs.Balance.{cycleSum};
+ghost use Rattle.graph.specs.Proper.{ProperMode};
+ghost use Rattle.graph.specs.Counts.{MOST-TOKENS, Small, FlowIn, Entered, flowBetween, entriesOf, aboveLimit, scaledOf, fedOf, countsFrom, balancesb};
+
+// A channel by its producer and the tokens that a cycle of the one makes and a cycle of the other takes.
+pub(crate) struct Flow {
+    pub from: usize,
+    pub made: Token,
+    pub taken: Token,
+}
+
+// Cycle counts, 0 for actors that have none yet; or that one is above the limit.
+pub(crate) struct Counts {
+    pub good: bool,
+    pub counts: [u64; ACTORS],
+}
+
+// The tokens of a cycle.
+fn cycle_sum(phases: usize, rates: [u8; PHASES]) -> Token
+    requires { ⌜ (phases ≤ PHASES) × (length rates ≡ PHASES) ⌝ }
+    ensures { λ r. ⌜ r ≡ cycleSum phases rates ⌝ }
+{
+    rate::tokens(&rates[..phases], Firing(phases as u64))
+}
+
+fn flow_of(channel: Channel, maker: Actor, taker: Actor) -> Flow
+    requires { ⌜ (maker .phases ≤ PHASES) × (taker .phases ≤ PHASES) ⌝ }
+    ensures { λ r. ⌜ r ≡ flowBetween channel maker taker ⌝ }
+{
+    let production = channel.production;
+    let consumption = channel.consumption;
+    Flow {
+        from: channel.from,
+        made: cycle_sum(maker.phases, production),
+        taken: cycle_sum(taker.phases, consumption),
+    }
+}
+
+// For each actor its first incoming channel; 0 where it has none.
+pub(crate) fn entries_of(mode: Mode) -> [usize; ACTORS]
+    requires { ⌜ ProperMode mode ⌝ }
+    ensures { λ r. ⌜ r ≡ entriesOf mode ⌝ }
+{
+    let mut entries = [0usize; ACTORS];
+    let mut k = mode.count;
+    while 0 < k {
+        k -= 1;
+        let channel = mode.channels[k];
+        let to = channel.to;
+        entries[to] = k;
+    }
+    entries
+}
+
+fn above() -> Counts
+    ensures { λ r. ⌜ r ≡ aboveLimit ⌝ }
+{
+    Counts {
+        good: false,
+        counts: [0; ACTORS],
+    }
+}
+
+// All counts so many times.
+fn scaled(counts: [u64; ACTORS], times: u64) -> Counts
+    requires { ⌜ Small counts × (times ≤ MOST-TOKENS) ⌝ }
+    ensures { λ r. ⌜ r ≡ scaledOf counts times ⌝ }
+{
+    let mut next = counts;
+    for i in 0..ACTORS {
+        let count = next[i] * times;
+        if ITERATION_LIMIT < count {
+            return above();
+        }
+        next[i] = count;
+    }
+    Counts {
+        good: true,
+        counts: next,
+    }
+}
+
+// The counts with that of actor i, which a channel feeds; all scaled so that it is whole.
+fn fed(now: Counts, flow: Flow, i: usize) -> Counts
+    requires { ⌜ Small (now .counts) × FlowIn flow × (i < ACTORS) ⌝ }
+    ensures { λ r. ⌜ r ≡ fedOf now flow i ⌝ }
+{
+    if !now.good {
+        return now;
+    }
+    let counts = now.counts;
+    let from = flow.from;
+    let meeting = rate::meet(counts[from], flow.made, flow.taken);
+    if ITERATION_LIMIT < meeting.takers {
+        return above();
+    }
+    let mut next = scaled(counts, meeting.times);
+    if next.good {
+        next.counts[i] = meeting.takers;
+    }
+    next
+}
+
+// The source runs one cycle, and the others follow by depth, and within a depth by place.
+pub(crate) fn counts_of(
+    mode: Mode,
+    entries: [usize; ACTORS],
+    depths: [usize; ACTORS],
+    source: usize,
+) -> Counts
+    requires { ⌜ ProperMode mode × (length entries ≡ ACTORS) × (length depths ≡ ACTORS) × Entered mode entries depths × (source < ACTORS) ⌝ }
+    ensures { λ r. ⌜ r ≡ countsFrom mode entries depths source (ACTORS * ACTORS) ⌝ }
+{
+    let mut counts = [0u64; ACTORS];
+    counts[source] = 1;
+    let mut now = Counts { good: true, counts };
+    for n in 0..ACTORS * ACTORS {
+        let i = n % ACTORS;
+        if has(mode.active, i) {
+            if depths[i] == n / ACTORS + 1 {
+                let entry = entries[i];
+                let channel = mode.channels[entry];
+                let from = channel.from;
+                now = fed(now, flow_of(channel, mode.actors[from], mode.actors[i]), i);
+            }
+        }
+    }
+    now
+}
+
+// Whether the counts balance each channel.
+pub(crate) fn balances(mode: Mode, counts: [u64; ACTORS]) -> bool
+    requires { ⌜ ProperMode mode × Small counts ⌝ }
+    ensures { λ r. ⌜ r ≡ balancesb mode counts (mode .count) ⌝ }
+{
+    for k in 0..mode.count {
+        let channel = mode.channels[k];
+        let from = channel.from;
+        let to = channel.to;
+        let flow = flow_of(channel, mode.actors[from], mode.actors[to]);
+        if !rate::even(counts[from], flow.made, counts[to], flow.taken) {
+            return false;
+        }
+    }
+    true
+}

@@ -1,0 +1,52 @@
+// What the actors of a mode ask of the processors.
+use crate::shape::Actor;
+use numbers::fraction::at_most;
+use terms::limits::ACTORS;
+use terms::limits::LOAD_LIMIT;
+use terms::limits::PROCESSORS;
+use terms::period;
+use units::Tick;
+ghost use mathlib.Core.Path.{_≡_};
+ghost use Prim.Native.Nat.{_<_};
+ghost use lib.ListN.{length};
+ghost use Rattle.terms.specs.Limits.{ACTORS, PROCESSORS};
+ghost use Rattle.graph.specs.Lengths.{Light, shareFrom, sharesIn, overloadedOf};
+
+// The ticks of an iteration that a processor works.
+fn share_of(actors: [Actor; ACTORS], works: [Tick; ACTORS], processor: usize) -> Tick
+    requires { ⌜ (length actors ≡ ACTORS) × Light works ⌝ }
+    ensures { λ r. ⌜ r ≡ shareFrom actors works processor ACTORS ⌝ }
+{
+    let mut share = Tick(0);
+    for i in 0..ACTORS {
+        let actor = actors[i];
+        if actor.processor == processor {
+            share = share.plus(works[i]);
+        }
+    }
+    share
+}
+
+pub(crate) fn shares_of(actors: [Actor; ACTORS], works: [Tick; ACTORS]) -> [Tick; PROCESSORS]
+    requires { ⌜ (length actors ≡ ACTORS) × Light works ⌝ }
+    ensures { λ r. ⌜ r ≡ sharesIn actors works ⌝ }
+{
+    let mut shares = [Tick(0); PROCESSORS];
+    for p in 0..PROCESSORS {
+        shares[p] = share_of(actors, works, p + 1);
+    }
+    shares
+}
+
+// The lowest processor whose load is above the limit; 0 where there is none.
+pub(crate) fn overloaded(shares: [Tick; PROCESSORS], iteration: Tick) -> usize
+    requires { ⌜ (length shares ≡ PROCESSORS) × (0 < iteration .0) ⌝ }
+    ensures { λ r. ⌜ r ≡ overloadedOf shares iteration ⌝ }
+{
+    for p in 0..PROCESSORS {
+        if !at_most(period::part(shares[p], iteration), LOAD_LIMIT) {
+            return p + 1;
+        }
+    }
+    0
+}

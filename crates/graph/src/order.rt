@@ -1,0 +1,81 @@
+// The order of a mode's actors along its channels.
+use crate::shape::Mode;
+use numbers::bits::has;
+use numbers::bits::size;
+use numbers::bits::with;
+use numbers::bits::within;
+use numbers::bits::without;
+use terms::limits::ACTORS;
+ghost use mathlib.Core.Path.{_≡_};
+ghost use Prim.Native.Nat.{_<_};
+ghost use lib.ListN.{length};
+ghost use Rattle.terms.specs.Limits.{ACTORS};
+ghost use Rattle.graph.specs.Proper.{ProperMode};
+ghost use Rattle.graph.specs.Rounds.{predsOf, moved as movedOf, roundFrom, orderOf};
+
+// The actors that are done, those that are left, and the depths of those that are done.
+pub(crate) struct Order {
+    pub done: u16,
+    pub left: u16,
+    pub depths: [usize; ACTORS],
+}
+
+// For each actor the set of those from which channels lead to it.
+pub(crate) fn preds_of(mode: Mode) -> [u16; ACTORS]
+    requires { ⌜ ProperMode mode ⌝ }
+    ensures { λ r. ⌜ r ≡ predsOf mode ⌝ }
+{
+    let mut preds = [0u16; ACTORS];
+    for k in 0..mode.count {
+        let channel = mode.channels[k];
+        let to = channel.to;
+        preds[to] = with(preds[to], channel.from);
+    }
+    preds
+}
+
+// Actor i is shifted in and removed.
+fn moved(now: Order, i: usize, depth: usize) -> Order
+    requires { ⌜ i < ACTORS ⌝ }
+    ensures { λ r. ⌜ r ≡ movedOf now i depth ⌝ }
+{
+    let mut next = now;
+    next.done = with(next.done, i);
+    next.left = without(next.left, i);
+    next.depths[i] = depth;
+    next
+}
+
+// Each actor that is left and whose predecessors were all done before is moved.
+fn round(preds: [u16; ACTORS], before: Order, depth: usize) -> Order
+    requires { ⌜ length preds ≡ ACTORS ⌝ }
+    ensures { λ r. ⌜ r ≡ roundFrom preds before depth ACTORS ⌝ }
+{
+    let mut next = before;
+    for i in 0..ACTORS {
+        if has(before.left, i) {
+            if within(preds[i], before.done) {
+                next = moved(next, i, depth);
+            }
+        }
+    }
+    next
+}
+
+// Rounds until no actor is left: as many as there are actors do, unless there is a cycle.
+pub(crate) fn order_of(preds: [u16; ACTORS], active: u16) -> Order
+    requires { ⌜ length preds ≡ ACTORS ⌝ }
+    ensures { λ r. ⌜ r ≡ orderOf preds active ⌝ }
+{
+    let mut now = Order {
+        done: 0,
+        left: active,
+        depths: [0; ACTORS],
+    };
+    for depth in 0..ACTORS {
+        if size(now.left) != 0 {
+            now = round(preds, now, depth);
+        }
+    }
+    now
+}

@@ -1,0 +1,3 @@
+-- Counts of one kind.
+pub mod Ticks
+pub mod Tokens
