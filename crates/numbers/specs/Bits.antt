@@ -84,6 +84,13 @@ unfolding bit
 bit-or a b zero = rw or-step (digits-mod _ (omega arith))
 bit-or a b (suc i) = ap (λ (x : ℕ). bit x i) (rw or-step (digits-div _ (omega arith))) ∙ bit-or (a / 2) (b / 2) i
 
+-- what two sets both have
+pub has-and : (a b i : ℕ) → Has (bitAnd a b) i ↔ (Has a i × Has b i)
+has-and a b i = (
+  (λ h. (omega (arith, bit-and a b i, bit-lt a i, bit-lt b i), omega (arith, bit-and a b i, bit-lt a i, bit-lt b i))),
+  (λ w. bit-and a b i ∙ rw (w .0, w .1)),
+)
+
 -- what one of two sets has
 pub has-or : (a b i : ℕ) → Has (bitOr a b) i ↔ (Has a i ⊎ Has b i)
 has-or a b i = (

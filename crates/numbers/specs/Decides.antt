@@ -39,6 +39,10 @@ decides-and false s p q = ((λ t. absurd t), (λ w. p .1 (w .0)))
 pub decides-leb : (a b : ℕ) → Decides (a ≤ b) (leb a b)
 decides-leb a b = ((λ t. leb→le a b t), (λ h. le→leb a b h))
 
+-- an answer to whether a is at most b is that test
+pub leb-is : (a b : ℕ) (r : Bool) → Decides (a ≤ b) r → leb a b ≡ r
+leb-is a b r d = decides-unique (leb a b) r (decides-leb a b) d
+
 -- what the flag says
 pub decides-true : {P : Type 0} {r : Bool} → Decides P r → r ≡ true → P
 decides-true d e = d .0 (subst T (sym e) tt)

@@ -72,6 +72,16 @@ bezout {a} {b} {g} pos p =
     let (h, is, ahead) = found (suc b) a b (lt-suc-self b) in
     subst (λ (x : ℕ). Ahead a b x) (gcd-unique is p) (ahead pos)
 
+-- r times as far ahead, and ahead from K times a on
+pub ahead-times : (a b g r : ℕ) → Ahead a b g → Ahead a b (r * g)
+ahead-times a b g r (u, v, e) = (r * u, r * v, omega (arith, ap (λ (z : ℕ). r * z) e))
+
+pub ahead-from : (a b g K : ℕ) → zero < b → Ahead a b g → (k : ℕ) × (v : ℕ) × ((K + k) * a ≡ v * b + g)
+ahead-from a b g K pos (u, v, e) =
+    let k : ℕ = u + K * b - K in
+    let ek : K + k ≡ u + K * b = omega (arith, le-mul-of-pos-right K pos) in
+    (k, v + K * a, omega (arith, e, ap (λ (z : ℕ). z * a) ek))
+
 -- a common factor goes through
 pub gcd-scale : (k : ℕ) {a b g : ℕ} → zero < k → IsGcd a b g → IsGcd (k * a) (k * b) (k * g)
 gcd-scale k {a} {b} {g} pos p =

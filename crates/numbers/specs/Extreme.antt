@@ -1,10 +1,11 @@
 -- The least and the greatest number with a property, and how many there are where they come first. Each is one number at most.
-use mathlib.Core.Path.{_≡_}
+use mathlib.Core.Path.{_≡_, refl, ap₂}
 use mathlib.Core.Logic.{_↔_, ⊎-elim}
-use Prim.Native.Nat.{ℕ, zero, suc, _≤_, _<_, max}
-use native.Mathlib.Nat.{le-antisymm, lt-irrefl, lt-of-not-le, lt-of-lt-of-le, not-suc-le-zero, le-of-suc-le-suc, eq-or-lt-of-le}
+use Prim.Native.Nat.{ℕ, zero, suc, _≤_, _<_, max, _+_}
+use native.Mathlib.Nat.{le-antisymm, lt-irrefl, lt-of-not-le, lt-of-lt-of-le, not-suc-le-zero, le-of-suc-le-suc, eq-or-lt-of-le, le-refl}
 use native.Mathlib.Omega.{arith}
 use native.Mathlib.Decide.{decLe}
+use native.Mathlib.Numerals.{add-one}
 
 -- n has the property P, and no smaller number has it
 pub record Least (P : ℕ → Type 0) (n : ℕ) : Type 0 where
@@ -42,12 +43,22 @@ mostOf f zero = 0
 mostOf f (suc n) = max (mostOf f n) (f n)
 
 module _ (f : ℕ → ℕ) where
-  -- no value is above it, and one is it
+  -- one value more, as a loop counts
+  pub most-next : (n : ℕ) → mostOf f (n + 1) ≡ max (mostOf f n) (f n)
+  unfolding mostOf
+  most-next n = rw add-one
+
+  -- no value is above it, no smaller number has this, and one value is it
   pub most-above : (n i : ℕ) → i < n → f i ≤ mostOf f n
   unfolding mostOf
   most-above zero i h = absurd (not-suc-le-zero h)
   most-above (suc n) i h =
       ⊎-elim (λ (e : i ≡ n). rw e (omega arith)) (λ (g : i < n). omega (arith, most-above n i g)) (eq-or-lt-of-le (le-of-suc-le-suc h))
+
+  pub most-within : (b n : ℕ) → ((i : ℕ) → i < n → f i ≤ b) → mostOf f n ≤ b
+  unfolding mostOf
+  most-within b zero h = omega arith
+  most-within b (suc n) h = omega (arith, most-within b n (λ i l. h i (omega arith)), h n (le-refl (suc n)))
 
   pub most-at : (n : ℕ) → 0 < mostOf f n → (i : ℕ) × (i < n) × (f i ≡ mostOf f n)
   unfolding mostOf
@@ -68,3 +79,9 @@ module _ (f : ℕ → ℕ) where
         holds = (j, (l, only j l (omega (arith, most-above n i (a .0)))), e);
         greatest = λ v (k, b, d). omega (arith, most-above n k (b .0));
       }
+
+-- the same values have the same greatest
+pub most-same : (f g : ℕ → ℕ) (n : ℕ) → ((i : ℕ) → i < n → f i ≡ g i) → mostOf f n ≡ mostOf g n
+unfolding mostOf
+most-same f g zero h = refl
+most-same f g (suc n) h = ap₂ max (most-same f g n (λ i l. h i (omega arith))) (h n (le-refl (suc n)))

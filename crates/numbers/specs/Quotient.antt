@@ -1,9 +1,13 @@
 -- The quotient rounded up, and its laws.
-use mathlib.Core.Path.{_≡_, subst}
-use Prim.Native.Nat.{ℕ, zero, _+_, _*_, _/_, _%_, _≤_, _<_}
-use native.Mathlib.Nat.{div-add-mod', div-le-of-le-mul, lt-div-mul-add, le-mul-of-pos-right, mul-le-mul-left, mul-le-mul-right, le-of-mul-le-mul-left, mul-comm, add-mul, one-mul, lt-of-not-le}
+use mathlib.Core.Path.{_≡_, subst, refl, ap}
+use Prim.Native.Nat.{ℕ, zero, _+_, _*_, _/_, _%_, _≤_, _<_, _-_}
+use native.Mathlib.Nat.{div-add-mod', div-le-of-le-mul, lt-div-mul-add, le-mul-of-pos-right, mul-le-mul-left, mul-le-mul-right, le-of-mul-le-mul-left, mul-comm, add-mul, one-mul, lt-of-not-le, div-eq-of-lt-le, mod-lt}
 use native.Mathlib.Omega.{arith}
 use Rattle.numbers.specs.Extreme.{Least}
+use mathlib.Core.Bool.{Bool, true, false, cond}
+use native.Mathlib.Decide.{decLt}
+use borrow.Author.Tests.{leb-true, leb-false}
+use lib.Dec.{leb}
 
 -- n is a / b rounded up: the least number whose b-fold is at least a
 abbrev pub RoundedUp : ℕ → ℕ → ℕ → Type 0
@@ -32,3 +36,23 @@ rounded-times c a b pos p =
       holds = omega (arith, mul-le-mul-left c (p .holds));
       least = λ m h. p .least m (le-of-mul-le-mul-left {k = c} (omega (arith, h)) pos);
     }
+
+-- the quotient of a number by that of a part of it and that of the rest: one more where the remainder is below the part's
+pub div-difference : (x y g : ℕ) → zero < g → y ≤ x → x / g ≡ (x - y) / g + y / g + cond (leb (y % g) (x % g)) 0 1
+div-difference x y g pos h = go (decLt ((x - y) % g + y % g) g) (leb (y % g) (x % g)) refl
+  where
+    low : (x - y) % g + y % g < g → x / g ≡ (x - y) / g + y / g
+    low l = div-eq-of-lt-le g (omega (arith, div-add-mod' (x - y) g, div-add-mod' y g)) (omega (arith, l, div-add-mod' (x - y) g, div-add-mod' y g))
+
+    high : g ≤ (x - y) % g + y % g → x / g ≡ (x - y) / g + y / g + 1
+    high l =
+        div-eq-of-lt-le g (omega (arith, l, div-add-mod' (x - y) g, div-add-mod' y g))
+        (omega (arith, mod-lt (x - y) pos, mod-lt y pos, div-add-mod' (x - y) g, div-add-mod' y g))
+
+    go : Dec ((x - y) % g + y % g < g) → (b : Bool) → leb (y % g) (x % g) ≡ b → x / g ≡ (x - y) / g + y / g + cond b 0 1
+    go (yes l) true e = omega (arith, low l)
+    go (yes l) false e =
+        absurd (omega (arith, leb-false (y % g) (x % g) e, ap (λ (z : ℕ). z * g) (low l), div-add-mod' x g, div-add-mod' (x - y) g, div-add-mod' y g))
+    go (no l) true e =
+        absurd (omega (arith, leb-true (y % g) (x % g) e, mod-lt (x - y) pos, ap (λ (z : ℕ). z * g) (high (omega arith)), div-add-mod' x g, div-add-mod' (x - y) g, div-add-mod' y g))
+    go (no l) false e = high (omega arith)

@@ -1,7 +1,7 @@
 -- The sum of the first values of a function, and its laws.
 use mathlib.Core.Path.{_≡_, refl, sym, ap, ap₂, _∙_}
 use Prim.Native.Nat.{ℕ, zero, suc, _+_, _*_, _≤_, _<_}
-use native.Mathlib.Nat.{add-le-add, add-zero, add-suc, zero-mul, le-refl, le-dest, add-mul}
+use native.Mathlib.Nat.{add-le-add, add-zero, add-suc, zero-mul, le-refl, le-dest, add-mul, lt-of-not-le}
 use native.Mathlib.Numerals.{add-one}
 use native.Mathlib.Omega.{arith}
 
@@ -31,10 +31,33 @@ unfolding sum
 sum-most f b zero h = omega arith
 sum-most f b (suc n) h = omega (arith, sum-most f b n (λ i l. h i (omega arith)), h n (le-refl (suc n)))
 
+-- and where none is below b, not below it
+pub sum-least : (f : ℕ → ℕ) (b n : ℕ) → ((i : ℕ) → i < n → b ≤ f i) → n * b ≤ sum f n
+unfolding sum
+sum-least f b zero h = omega arith
+sum-least f b (suc n) h = omega (arith, sum-least f b n (λ i l. h i (omega arith)), h n (le-refl (suc n)))
+
+-- of values that are all 0
+pub sum-none : (f : ℕ → ℕ) (n : ℕ) → ((i : ℕ) → i < n → f i ≡ 0) → sum f n ≡ 0
+unfolding sum
+sum-none f zero h = refl
+sum-none f (suc n) h = omega (arith, sum-none f n (λ i l. h i (omega arith)), h n (le-refl (suc n)))
+
 pub sum-times : (f : ℕ → ℕ) (c n : ℕ) → sum (λ i. f i * c) n ≡ sum f n * c
 unfolding sum
 sum-times f c zero = sym (zero-mul c)
 sum-times f c (suc n) = ap (λ (x : ℕ). x + f n * c) (sum-times f c n) ∙ sym (add-mul (sum f n) (f n) c)
+
+-- values summed in pairs, and in rows or in columns
+pub sum-plus : (f g : ℕ → ℕ) (n : ℕ) → sum (λ i. f i + g i) n ≡ sum f n + sum g n
+unfolding sum
+sum-plus f g zero = refl
+sum-plus f g (suc n) = omega (arith, sum-plus f g n)
+
+pub sum-swap : (g : ℕ → ℕ → ℕ) (n k : ℕ) → sum (λ t. sum (g t) k) n ≡ sum (λ i. sum (λ t. g t i) n) k
+unfolding sum
+sum-swap g n zero = sum-none (λ t. 0) n (λ t l. refl)
+sum-swap g n (suc k) = sum-plus (λ t. sum (g t) k) (λ t. g t k) n ∙ ap (λ (x : ℕ). x + sum (λ t. g t k) n) (sum-swap g n k)
 
 -- the first m, and then as many as are left
 pub sum-parts : (f : ℕ → ℕ) (m k : ℕ) → sum f (m + k) ≡ sum f m + sum (λ i. f (m + i)) k
@@ -44,6 +67,10 @@ sum-parts f m (suc k) = rw add-suc (omega (arith, sum-parts f m k))
 
 pub sum-more : (f : ℕ → ℕ) (m n : ℕ) → m ≤ n → sum f m ≤ sum f n
 sum-more f m n h = rw (← le-dest h .1) (omega (arith, sum-parts f m (le-dest h .0)))
+
+-- a greater sum is one of more values
+pub sum-longer : (f : ℕ → ℕ) (m n : ℕ) → sum f m < sum f n → m < n
+sum-longer f m n h = lt-of-not-le (λ (l : n ≤ m). omega (arith, sum-more f n m l))
 
 -- no value is above the sum
 pub sum-one : (f : ℕ → ℕ) (i n : ℕ) → i < n → f i ≤ sum f n

@@ -36,6 +36,12 @@ use Rattle.units.proofs.Token.left.Kinds as left-kinds
 use Rattle.units.proofs.Token.left.Reads as left
 use Rattle.units.proofs.Token.common.Kinds as common-kinds
 use Rattle.units.proofs.Token.common.Reads as common
+use Rattle.units.proofs.Tick.ticks.Kinds as ticks-kinds
+use Rattle.units.proofs.Tick.ticks.Reads as ticks
+use Rattle.units.proofs.Firing.firings.Kinds as firings-kinds
+use Rattle.units.proofs.Firing.firings.Reads as firings
+use Rattle.units.proofs.Token.tokens.Kinds as tokens-kinds
+use Rattle.units.proofs.Token.tokens.Reads as tokens
 
 by-settled : Settles 0 by-kinds.ps by-kinds.r by.Post
 by-settled κs a x y s t p q = decides-unique x y p q
@@ -84,3 +90,12 @@ left-settled κs a x y s t p q = p ∙ sym q
 
 common-settled : Settles 0 common-kinds.ps common-kinds.r common.Post
 common-settled κs a x y s t p q = λ i. token (gcd-unique p q i)
+
+ticks-settled : Settles 0 ticks-kinds.ps ticks-kinds.r ticks.Post
+ticks-settled κs a x y s t p q = p ∙ sym q
+
+firings-settled : Settles 0 firings-kinds.ps firings-kinds.r firings.Post
+firings-settled κs a x y s t p q = p ∙ sym q
+
+tokens-settled : Settles 0 tokens-kinds.ps tokens-kinds.r tokens.Post
+tokens-settled κs a x y s t p q = p ∙ sym q

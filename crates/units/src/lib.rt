@@ -1,5 +1,6 @@
 // Three counts that are never mixed: ticks of the clock, firings of an actor, tokens of a channel. Here each is reckoned with its own kind;
 // what leads from one to another is the period rule and the rate rule alone.
+mod firings;
 mod ticks;
 mod tokens;
 

@@ -72,4 +72,11 @@ impl Tick {
     {
         Tick(self.0 % part.0)
     }
+
+    // The number that is stored and printed of them.
+    pub fn ticks(self) -> u64
+        ensures { λ r. ⌜ r ≡ self .0 ⌝ }
+    {
+        self.0
+    }
 }

@@ -73,4 +73,11 @@ impl Token {
     {
         Token(gcd(self.0, other.0))
     }
+
+    // The number that is stored and printed of them.
+    pub fn tokens(self) -> u64
+        ensures { λ r. ⌜ r ≡ self .0 ⌝ }
+    {
+        self.0
+    }
 }

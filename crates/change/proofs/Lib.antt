@@ -1,0 +1,5 @@
+-- What belongs to no one function.
+pub mod Loads
+pub mod Offsets
+mod Settled
+mod Worked

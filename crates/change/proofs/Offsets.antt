@@ -1,0 +1,250 @@
+-- The overlap and the offset that are found are those of the rules: for any limit, the load is borne from an offset on exactly when each new actor waits for each
+-- old one with which its processor would be asked for more. Assumes nothing.
+use mathlib.Core.Path.{_≡_, refl, sym, _∙_}
+use mathlib.Core.Bool.{Bool, true, false, cond}
+use mathlib.Core.Logic.{_⊎_, inl, inr, ⊎-elim, _↔_}
+use Prim.Native.Nat.{ℕ, suc, _+_, _-_, _*_, _≤_, _<_, max, zero-le}
+use native.Mathlib.Nat.{mul-pos, mul-le-mul-left, mul-le-mul-right, lt-of-not-le, not-le-of-lt, le-trans, lt-irrefl}
+use native.Mathlib.Omega.{arith}
+use native.Mathlib.Decide.{decLe}
+use borrow.Author.Tests.{eq-eqb, eqb-true, eqb-false, leb-true, leb-false}
+use lib.Bits.{bitAnd}
+use lib.Dec.{eqb, leb, ltb, ltb→lt, lt→ltb, leb→le, le→leb}
+use Rattle.numbers.specs.Bits.{bit, Has, hasb, has-and, has-or-not}
+use Rattle.numbers.specs.Extreme.{mostOf, most-next, most-above, most-within, most-at}
+use Rattle.numbers.specs.Fraction.{AtMost, plus, same-plus, same-at-most}
+use Rattle.numbers.specs.Tab.{getD-tab}
+use Rattle.numbers.specs.declared.fraction.Fraction.{Fraction}
+use Rattle.terms.specs.Limits.{ACTORS, PROCESSORS, LOAD-LIMIT}
+use Rattle.terms.specs.Period.{partOf}
+use Rattle.units.specs.Ticks.{tick, minusOf, laterOf}
+use Rattle.units.specs.declared.Tick.{Tick}
+use Rattle.change.specs.declared.Running.{Running}
+use Rattle.change.specs.Work.{tickAt}
+use Rattle.change.specs.Change.{Runs, actorIn, startOf, askedOf, loadAt, Bearable, Bears, Overlap, Offset, Ready}
+use Rattle.change.specs.Waits.{Part, leadOf, overlapOf, oldSide, newSide, atMostb, waitOf, offsetFrom}
+use Rattle.change.proofs.Loads.{workIn, work-within, FromFirst, work-first, ToLast, work-last, work-nowhere, asked-proper, asked-work}
+
+-- what two works ask together of a processor, each as a part of its mode's iteration
+abbrev pub asked : Running → Running → ℕ → ℕ → Fraction
+asked old new v w = plus (partOf (tick v) (old .iteration)) (partOf (tick w) (new .iteration))
+
+-- what an old actor and those that start no earlier ask with a new one and those that start no later
+abbrev pub together : Running → Running → ℕ → ℕ → Fraction
+together old new i j = asked old new (workIn old (actorIn old i .processor) (startOf old i) (old .startup .0)) (workIn new (actorIn new j .processor) 0 (startOf new j))
+
+-- the new actor waits for the old one, where they are on one processor and that is above the limit
+abbrev pub Waits : Fraction → Running → Running → ℕ → ℕ → ℕ → Type 0
+Waits limit old new d i j =
+    actorIn old i .processor ≡ actorIn new j .processor → (AtMost (together old new i j) limit → ⊥) → startOf old i ≤ d + startOf new j
+
+-- one actor more: in both modes, or not
+module _ (old new : Running) (i : ℕ) where
+  pub lead-both : hasb (bitAnd (old .active) (new .active)) i ≡ true → mostOf (leadOf old new) (i + 1) ≡ max (mostOf (leadOf old new) i) (startOf old i - startOf new i)
+  lead-both e = most-next (leadOf old new) i ∙ rw e
+
+  pub lead-other : hasb (bitAnd (old .active) (new .active)) i ≡ false → mostOf (leadOf old new) (i + 1) ≡ mostOf (leadOf old new) i
+  lead-other e = most-next (leadOf old new) i ∙ rw e (omega arith)
+
+-- the greatest lead is the overlap
+pub overlap-is : (old new : Running) → Overlap old new (overlapOf old new)
+overlap-is old new =
+    record {
+      holds = some (decLe 1 (mostOf (leadOf old new) ACTORS));
+      greatest = λ v. ⊎-elim (λ (z : v ≡ 0). omega arith)
+          (λ (i, a, b, e). omega (arith, most-above (leadOf old new) ACTORS i (a .0), led i (has-and (old .active) (new .active) i .1 (a .1, b .1))));
+    }
+  where
+    led : (i : ℕ) → Has (bitAnd (old .active) (new .active)) i → leadOf old new i ≡ startOf old i - startOf new i
+    led i h = rw (eq-eqb _ _ h)
+
+    ahead : (i : ℕ) → 0 < leadOf old new i → Has (bitAnd (old .active) (new .active)) i
+    ahead i h = go (hasb (bitAnd (old .active) (new .active)) i) refl h
+      where
+        go : (x : Bool) → hasb (bitAnd (old .active) (new .active)) i ≡ x → 0 < cond x (startOf old i - startOf new i) 0 → Has (bitAnd (old .active) (new .active)) i
+        go true e h = eqb-true _ _ e
+        go false e h = absurd (lt-irrefl 0 h)
+
+    some : Dec (1 ≤ mostOf (leadOf old new) ACTORS)
+        → (mostOf (leadOf old new) ACTORS ≡ 0) ⊎ ((i : ℕ) × Runs old i × Runs new i × (mostOf (leadOf old new) ACTORS ≡ startOf old i - startOf new i))
+    some (no n) = inl (omega arith)
+    some (yes h) =
+        let (i, l, e) = most-at (leadOf old new) ACTORS h in
+        let both : Has (bitAnd (old .active) (new .active)) i = ahead i (rw e h) in
+        let w = has-and (old .active) (new .active) i .0 both in
+        inr (i, (l, w .0), (l, w .1), sym e ∙ led i both)
+
+-- what a planned mode has of its actors
+module _ (r : Running) (ready : Ready r) (i : ℕ) (l : i < ACTORS) where
+  since-is : tickAt (r .since) i ≡ tick (workIn r (actorIn r i .processor) (startOf r i) (r .startup .0))
+  since-is = rw (ready .since) (getD-tab ACTORS _ i (tick 0) l)
+
+  until-is : tickAt (r .until) i ≡ tick (workIn r (actorIn r i .processor) 0 (startOf r i))
+  until-is = rw (ready .until) (getD-tab ACTORS _ i (tick 0) l)
+
+module _ (limit : Fraction) where
+  -- a mode's work on a processor is within the limit
+  pub own-work : (r : Running) → Ready r → Bearable limit r → (p : ℕ) → 1 ≤ p → p ≤ PROCESSORS → (a b : ℕ) → AtMost (partOf (tick (workIn r p a b)) (r .iteration)) limit
+  own-work r ready own p l m a b =
+      omega (
+        arith,
+        mul-le-mul-right (limit .under) (work-within r p a b 0 (r .startup .0) (λ i l w. (w .0, (zero-le, ready .start i l)))),
+        same-at-most (askedOf r p (λ i. true)) (partOf (tick (workIn r p 0 (r .startup .0))) (r .iteration)) limit (asked-proper r ready p (λ i. true)) (ready .some-tick)
+            (asked-work r ready p (λ i. true) 0 (r .startup .0) (λ i l. ((λ t. (zero-le, ready .start i l)), (λ w. tt)))) .0 (own p l m),
+      )
+
+  module _ (old new : Running) (ready-old : Ready old) (ready-new : Ready new) where
+    -- the load at tick k by works
+    load-work : (d k p : ℕ) → d ≤ k
+        → AtMost (loadAt old new d k p) limit ↔ AtMost (asked old new (workIn old p (suc k) (old .startup .0)) (workIn new p 0 (k - d))) limit
+    load-work d k p h =
+        same-at-most (loadAt old new d k p) (asked old new (workIn old p (suc k) (old .startup .0)) (workIn new p 0 (k - d))) limit
+        (mul-pos (asked-proper old ready-old p counts-old) (asked-proper new ready-new p counts-new))
+        (mul-pos (ready-old .some-tick) (ready-new .some-tick))
+        (same-plus (askedOf old p counts-old) (askedOf new p counts-new) (partOf (tick (workIn old p (suc k) (old .startup .0))) (old .iteration)) (partOf (tick (workIn new p 0 (k - d))) (new .iteration))
+        (asked-work old ready-old p counts-old (suc k) (old .startup .0) (λ i l. ((λ t. (ltb→lt _ _ t, ready-old .start i l)), (λ w. lt→ltb _ _ (w .0)))))
+        (asked-work new ready-new p counts-new 0 (k - d) (λ i l. ((λ t. (zero-le, less (startOf new i) (leb→le _ _ t))), (λ w. le→leb _ _ (more (startOf new i) (w .1)))))))
+      where
+        counts-old : ℕ → Bool
+        counts-old i = ltb k (startOf old i)
+
+        counts-new : ℕ → Bool
+        counts-new i = leb (d + startOf new i) k
+
+        less : (s : ℕ) → d + s ≤ k → s ≤ k - d
+        less s g = omega arith
+
+        more : (s : ℕ) → s ≤ k - d → d + s ≤ k
+        more s g = omega arith
+
+    -- less work is within the limit too, and so is that of one mode
+    less-asked : (v w x y : ℕ) → v ≤ x → w ≤ y → AtMost (asked old new x y) limit → AtMost (asked old new v w) limit
+    less-asked v w x y g h m =
+        omega (
+          arith,
+          m,
+          mul-le-mul-right (new .iteration .0 * limit .under) g,
+          mul-le-mul-right (old .iteration .0 * limit .under) h,
+        )
+
+    one-asked : (w : ℕ) → AtMost (partOf (tick w) (new .iteration)) limit → AtMost (asked old new 0 w) limit
+    one-asked w m = omega (arith, mul-le-mul-left (old .iteration .0) m)
+
+    other-asked : (v : ℕ) → AtMost (partOf (tick v) (old .iteration)) limit → AtMost (asked old new v 0) limit
+    other-asked v m = omega (arith, mul-le-mul-left (new .iteration .0) m)
+
+    -- an offset from which the load is borne: each new actor waits
+    bears-waits : (d : ℕ) → Bears limit old new d → (i j : ℕ) → i < ACTORS → j < ACTORS → Waits limit old new d i j
+    bears-waits d bears i j li lj e above = go (decLe (startOf old i) (d + startOf new j)) (has-or-not (old .active) i)
+      where
+        -- the load at the new actor's start
+        borne : d + startOf new j < startOf old i → Has (old .active) i → AtMost (together old new i j) limit
+        borne h y =
+            let a = ready-old .actor i (li, y) in
+            let p = actorIn old i .processor in
+            let k = d + startOf new j in
+            less-asked _ _ (workIn old p (suc k) (old .startup .0)) (workIn new p 0 (k - d))
+            (work-within old p (startOf old i) (old .startup .0) (suc k) (old .startup .0) (λ n l w. (w .0, (omega (arith, w .1 .0), w .1 .1))))
+            (rw (← e) (work-within new p 0 (startOf new j) 0 (k - d) (λ n l w. (w .0, (zero-le, omega (arith, w .1 .1))))))
+            (load-work d k p (omega arith) .0 (bears k p (omega arith) (omega (arith, ready-old .start i li)) (a .some-processor) (a .processor)))
+
+        -- an actor that does not run asks for nothing, nor does any other with it
+        nowhere : bit (old .active) i ≡ 0 → AtMost (together old new i j) limit
+        nowhere z =
+            let q : actorIn old i .processor ≡ 0 = rw (ready-old .no-actor i li (λ h. omega arith)) in
+            let v : workIn old (actorIn old i .processor) (startOf old i) (old .startup .0) ≡ 0 = rw q (work-nowhere old ready-old _ _) in
+            let w : workIn new (actorIn new j .processor) 0 (startOf new j) ≡ 0 = rw (← e, q) (work-nowhere new ready-new _ _) in
+            rw (v, w) (omega arith)
+
+        go : Dec (startOf old i ≤ d + startOf new j) → Has (old .active) i ⊎ (bit (old .active) i ≡ 0) → startOf old i ≤ d + startOf new j
+        go (yes h) a = h
+        go (no n) (inl y) = absurd (above (borne (lt-of-not-le n) y))
+        go (no n) (inr z) = absurd (above (nowhere z))
+
+    -- and the other way
+    waits-bears : (d : ℕ) → ((i j : ℕ) → i < ACTORS → j < ACTORS → Waits limit old new d i j) → Bearable limit old → Bearable limit new → Bears limit old new d
+    waits-bears d waits own-old own-new k p dk ks l m =
+        load-work d k p dk .1 (go (work-first old p (suc (old .startup .0)) (suc k) (old .startup .0) (omega arith)) (work-last new p (k - d)))
+      where
+        go : FromFirst old p (suc k) (old .startup .0) → ToLast new p (k - d) → AtMost (asked old new (workIn old p (suc k) (old .startup .0)) (workIn new p 0 (k - d))) limit
+        go (inl z) t = rw z (one-asked (workIn new p 0 (k - d)) (own-work new ready-new own-new p l m 0 (k - d)))
+        go (inr (i, li, wi, vi)) (inl z) =
+            rw z (other-asked (workIn old p (suc k) (old .startup .0)) (own-work old ready-old own-old p l m (suc k) (old .startup .0)))
+        go (inr (i, li, (ei, wi), vi)) (inr (j, lj, (ej, wj), vj)) =
+            rw (vi, vj) (pair (decLe _ _))
+          where
+            pair : Dec (AtMost (asked old new (workIn old p (startOf old i) (old .startup .0)) (workIn new p 0 (startOf new j))) limit)
+                → AtMost (asked old new (workIn old p (startOf old i) (old .startup .0)) (workIn new p 0 (startOf new j))) limit
+            pair (yes h) = h
+            pair (no n) = let late : startOf old i ≤ d + startOf new j = waits i j li lj (ei ∙ sym ej) (rw (ei, ej) n) in absurd (omega arith)
+
+    -- how long a new actor waits for an old one
+    wait-is : (d i j : ℕ) → i < ACTORS → j < ACTORS → (waitOf limit (oldSide old i) (newSide new j) .0 ≤ d) ↔ Waits limit old new d i j
+    wait-is d i j li lj =
+        rw (since-is old ready-old i li, until-is new ready-new j lj) (go (eqb (actorIn old i .processor) (actorIn new j .processor)) refl (atMostb (together old new i j) limit) refl)
+      where
+        go : (x : Bool) → eqb (actorIn old i .processor) (actorIn new j .processor) ≡ x → (y : Bool) → atMostb (together old new i j) limit ≡ y
+            → (cond x (cond y (tick 0) (minusOf (tickAt (old .starts) i) (tickAt (new .starts) j))) (tick 0) .0 ≤ d) ↔ Waits limit old new d i j
+        go false e y f = ((λ h same n. absurd (eqb-false _ _ e same)), (λ w. zero-le))
+        go true e true f = ((λ h same n. absurd (n (leb-true _ _ f))), (λ w. zero-le))
+        go true e false f = (
+          (λ h same n. omega arith),
+          (λ w. let late : startOf old i ≤ d + startOf new j = w (eqb-true _ _ e) (λ h. not-le-of-lt (leb-false _ _ f) h) in omega arith),
+        )
+
+    -- the load is borne from an offset on exactly when it is at least what is found
+    pub bears-from : Bearable limit old → Bearable limit new → (d : ℕ) → Bears limit old new d ↔ (offsetFrom limit old new .0 ≤ d)
+    bears-from own-old own-new d = (
+      (λ b. most-within _ d ACTORS (λ i li. most-within _ d ACTORS (λ j lj. wait-is d i j li lj .1 (bears-waits d b i j li lj)))),
+      (λ h. waits-bears d (λ i j li lj. wait-is d i j li lj .0 (le-trans (most-above _ ACTORS j lj) (le-trans (most-above _ ACTORS i li) h))) own-old own-new),
+    )
+
+    -- so it is from the end of the old mode's start-up
+    pub bears-at-last : Bearable limit old → Bearable limit new → Bears limit old new (old .startup .0)
+    bears-at-last own-old own-new =
+        waits-bears (old .startup .0) (λ i j li lj e n. omega (arith, ready-old .start i li)) own-old own-new
+
+    -- the later of the overlap and what is found is the offset
+    pub offset-is : Bearable limit old → Bearable limit new → Offset limit old new (overlapOf old new) (laterOf (overlapOf old new) (offsetFrom limit old new))
+    offset-is own-old own-new =
+        record {
+          holds = (
+            omega arith,
+            omega (arith, bears-from own-old own-new (old .startup .0) .0 (bears-at-last own-old own-new), short),
+            bears-from own-old own-new _ .1 (omega arith),
+          );
+          least = λ n (x, s, b). omega (arith, bears-from own-old own-new n .0 b);
+        }
+      where
+        go : (x : Bool) (v : ℕ) → v ≤ old .startup .0 → cond x v 0 ≤ old .startup .0
+        go true v h = h
+        go false v h = zero-le
+
+        short : overlapOf old new .0 ≤ old .startup .0
+        short = most-within _ _ ACTORS (λ i l. go (hasb (bitAnd (old .active) (new .active)) i) (startOf old i - startOf new i) (omega (arith, ready-old .start i l)))
+
+-- each is a part of an iteration
+module _ (r : Running) (ready : Ready r) (i : ℕ) (l : i < ACTORS) where
+  work-part : (a b : ℕ) → Part (partOf (tick (workIn r (actorIn r i .processor) a b)) (r .iteration))
+  work-part a b = record { some = ready .some-tick; part = ⊎-elim on nowhere (has-or-not (r .active) i); whole = ready .iteration }
+    where
+      on : Has (r .active) i → workIn r (actorIn r i .processor) a b ≤ r .iteration .0
+      on y = let p = ready .actor i (l, y) in omega (arith, own-work LOAD-LIMIT r ready (ready .load) (actorIn r i .processor) (p .some-processor) (p .processor) a b)
+
+      nowhere : bit (r .active) i ≡ 0 → workIn r (actorIn r i .processor) a b ≤ r .iteration .0
+      nowhere z =
+          let q : actorIn r i .processor ≡ 0 = rw (ready .no-actor i l (λ h. omega arith)) in
+          let w : workIn r (actorIn r i .processor) a b ≡ 0 = rw q (work-nowhere r ready a b) in
+          omega arith
+
+  pub since-part : Part (partOf (tickAt (r .since) i) (r .iteration))
+  since-part = rw (since-is r ready i l) (work-part _ _)
+
+  pub until-part : Part (partOf (tickAt (r .until) i) (r .iteration))
+  until-part = rw (until-is r ready i l) (work-part _ _)
+
+-- what is found, under the limit in force
+pub found : (old new : Running) → Ready old → Ready new → {x o d : Tick} → x ≡ overlapOf old new → o ≡ offsetFrom LOAD-LIMIT old new → d ≡ laterOf x o
+    → Overlap old new x × Offset LOAD-LIMIT old new x d
+found old new ready-old ready-new e f g =
+    rw (g, e, f) (overlap-is old new, offset-is LOAD-LIMIT old new ready-old ready-new (ready-old .load) (ready-new .load))

@@ -1,0 +1,4 @@
+-- The rules of a change.
+pub mod Work
+pub mod Change
+pub mod Waits

@@ -1,0 +1,48 @@
+-- Model of wait.rt: how long a new mode waits for an old one.
+use mathlib.Core.Bool.{Bool, cond}
+use Prim.Native.Nat.{ℕ, _*_, _-_, _≤_, _<_}
+use lib.Bits.{bitAnd}
+use lib.Dec.{eqb, leb}
+use Rattle.numbers.specs.Bits.{hasb}
+use Rattle.numbers.specs.Extreme.{mostOf}
+use Rattle.numbers.specs.Fraction.{plus}
+use Rattle.numbers.specs.declared.fraction.Fraction.{Fraction}
+use Rattle.terms.specs.Limits.{ACTORS, ITERATION-LIMIT}
+use Rattle.terms.specs.Period.{partOf}
+use Rattle.units.specs.Ticks.{tick, minusOf}
+use Rattle.units.specs.declared.Tick.{Tick}
+use Rattle.change.specs.declared.Running.{Running}
+use Rattle.change.specs.declared.wait.Side.{Side}
+use Rattle.change.specs.Work.{tickAt}
+use Rattle.change.specs.Change.{actorIn, startOf}
+
+-- a part of an iteration
+pub record Part (a : Fraction) : Type 0 where
+  pub some : 0 < a .under
+  pub part : a .over ≤ a .under
+  pub whole : a .under ≤ ITERATION-LIMIT
+
+abbrev pub leadOf : Running → Running → ℕ → ℕ
+leadOf old new i = cond (hasb (bitAnd (old .active) (new .active)) i) (startOf old i - startOf new i) 0
+
+abbrev pub overlapOf : Running → Running → Tick
+overlapOf old new = tick (mostOf (leadOf old new) ACTORS)
+
+-- an old actor with those that start no earlier, and a new one with those that start no later
+abbrev pub oldSide : Running → ℕ → Side
+oldSide r i = record { processor = actorIn r i .processor; start = tickAt (r .starts) i; asked = partOf (tickAt (r .since) i) (r .iteration) }
+
+abbrev pub newSide : Running → ℕ → Side
+newSide r j = record { processor = actorIn r j .processor; start = tickAt (r .starts) j; asked = partOf (tickAt (r .until) j) (r .iteration) }
+
+abbrev pub atMostb : Fraction → Fraction → Bool
+atMostb a b = leb (a .over * b .under) (b .over * a .under)
+
+abbrev pub waitOf : Fraction → Side → Side → Tick
+waitOf limit a b = cond (eqb (a .processor) (b .processor)) (cond (atMostb (plus (a .asked) (b .asked)) limit) (tick 0) (minusOf (a .start) (b .start))) (tick 0)
+
+abbrev pub waitsOf : Fraction → Side → Running → Tick
+waitsOf limit a new = tick (mostOf (λ j. waitOf limit a (newSide new j) .0) ACTORS)
+
+abbrev pub offsetFrom : Fraction → Running → Running → Tick
+offsetFrom limit old new = tick (mostOf (λ i. waitsOf limit (oldSide old i) new .0) ACTORS)

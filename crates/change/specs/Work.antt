@@ -1,0 +1,75 @@
+-- The work of a mode's actors in an iteration, summed over those of a processor that start between two ticks.
+use mathlib.Core.Path.{_≡_}
+use mathlib.Core.Bool.{Bool, cond, _&&_}
+use mathlib.Core.List.{List}
+use Prim.Native.Nat.{ℕ, _≤_, _<_}
+use lib.Dec.{eqb, leb}
+use lib.ListN.{length, getD}
+use Rattle.numbers.specs.Sum.{sum}
+use Rattle.numbers.specs.Tab.{tab}
+use Rattle.terms.specs.Limits.{ACTORS, MOST-WCET, ITERATION-LIMIT}
+use Rattle.terms.specs.Period.{firing, beginsAt}
+use Rattle.units.specs.Ticks.{tick}
+use Rattle.units.specs.declared.Tick.{Tick}
+use Rattle.units.specs.declared.Firing.{Firing}
+use Rattle.graph.specs.declared.shape.Actor.{Actor}
+use Rattle.graph.specs.Shape.{noActor}
+use Rattle.change.specs.declared.Running.{Running}
+
+-- an actor, its firings and its start
+abbrev pub actorAt : List Actor → ℕ → Actor
+actorAt actors i = getD actors i noActor
+
+abbrev pub firingsAt : List Firing → ℕ → Firing
+firingsAt firings i = getD firings i (firing 0)
+
+abbrev pub tickAt : List Tick → ℕ → Tick
+tickAt ticks i = getD ticks i (tick 0)
+
+-- actors and firings within their ranges
+pub record Fitting (actors : List Actor) (firings : List Firing) (starts : List Tick) : Type 0 where
+  pub actors-long : length actors ≡ ACTORS
+  pub firings-long : length firings ≡ ACTORS
+  pub starts-long : length starts ≡ ACTORS
+  pub wcet : (i : ℕ) → i < ACTORS → actorAt actors i .wcet .0 ≤ MOST-WCET
+  pub few : (i : ℕ) → i < ACTORS → firingsAt firings i .0 ≤ ITERATION-LIMIT
+
+-- the work of an actor in an iteration: as many times its wcet as it has firings
+abbrev pub workOf : Actor → Firing → Tick
+workOf actor firings = beginsAt (tick 0) (actor .wcet) firings
+
+-- whether an actor is on processor p and starts at one of the ticks from a to b
+abbrev pub between : Actor → Tick → ℕ → Tick → Tick → Bool
+between actor start p a b = eqb (actor .processor) p && (leb (a .0) (start .0) && leb (start .0) (b .0))
+
+-- its work, where it is and does
+abbrev pub countedOf : Actor → Firing → Tick → ℕ → Tick → Tick → Tick
+countedOf actor firings start p a b = cond (between actor start p a b) (workOf actor firings) (tick 0)
+
+-- the work of all such actors
+abbrev pub workBetween : List Actor → List Firing → List Tick → ℕ → Tick → Tick → Tick
+workBetween actors firings starts p a b =
+    tick (sum (λ i. countedOf (actorAt actors i) (firingsAt firings i) (tickAt starts i) p a b .0) ACTORS)
+
+-- for each actor, on its processor: the work of those that start no earlier, and of those that start no later
+abbrev pub sincesOf : List Actor → List Firing → List Tick → Tick → List Tick
+sincesOf actors firings starts startup =
+    tab ACTORS (λ i. workBetween actors firings starts (actorAt actors i .processor) (tickAt starts i) startup)
+
+abbrev pub untilsOf : List Actor → List Firing → List Tick → List Tick
+untilsOf actors firings starts = tab ACTORS (λ i. workBetween actors firings starts (actorAt actors i .processor) (tick 0) (tickAt starts i))
+
+-- a mode with these numbers, as it runs
+abbrev pub preparedOf : ℕ → List Actor → Tick → List Firing → List Tick → List Tick → Tick → Running
+preparedOf active actors iteration firings periods starts startup =
+    record {
+      active = active;
+      actors = actors;
+      iteration = iteration;
+      firings = firings;
+      periods = periods;
+      starts = starts;
+      startup = startup;
+      since = sincesOf actors firings starts startup;
+      until = untilsOf actors firings starts;
+    }

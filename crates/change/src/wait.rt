@@ -1,0 +1,87 @@
+// How long a new mode waits for an old one.
+use crate::Running;
+use numbers::bits::has;
+use numbers::fraction::Fraction;
+use numbers::fraction::at_most;
+use numbers::fraction::plus;
+use terms::limits::ACTORS;
+use terms::limits::LOAD_LIMIT;
+use terms::period;
+use units::Tick;
+ghost use mathlib.Core.Path.{_≡_};
+ghost use Rattle.terms.specs.Limits.{LOAD-LIMIT};
+ghost use Rattle.change.specs.Change.{Ready};
+ghost use Rattle.change.specs.Waits.{Part, overlapOf, waitOf, waitsOf, offsetFrom};
+
+// The greatest of 0 and the starts less the new ones, over the actors in both modes.
+pub(crate) fn overlap_of(old: Running, new: Running) -> Tick
+    requires { ⌜ Ready old × Ready new ⌝ }
+    ensures { λ r. ⌜ r ≡ overlapOf old new ⌝ }
+{
+    let both = old.active & new.active;
+    let mut most = Tick(0);
+    for i in 0..ACTORS {
+        if has(both, i) {
+            let start = old.starts[i];
+            most = most.later(start.minus(new.starts[i]));
+        }
+    }
+    most
+}
+
+// An actor of a change: its processor, its start, and what those ask of the processor that count wherever it counts.
+pub(crate) struct Side {
+    pub processor: usize,
+    pub start: Tick,
+    pub asked: Fraction,
+}
+
+// How long a new actor waits for an old one.
+fn wait(old: Side, new: Side) -> Tick
+    requires { ⌜ Part (old .asked) × Part (new .asked) ⌝ }
+    ensures { λ r. ⌜ r ≡ waitOf LOAD-LIMIT old new ⌝ }
+{
+    if old.processor != new.processor {
+        return Tick(0);
+    }
+    if at_most(plus(old.asked, new.asked), LOAD_LIMIT) {
+        return Tick(0);
+    }
+    old.start.minus(new.start)
+}
+
+// How long the new mode waits for an old actor.
+fn waits(old: Side, new: Running) -> Tick
+    requires { ⌜ Part (old .asked) × Ready new ⌝ }
+    ensures { λ r. ⌜ r ≡ waitsOf LOAD-LIMIT old new ⌝ }
+{
+    let mut most = Tick(0);
+    for j in 0..ACTORS {
+        let actor = new.actors[j];
+        let side = Side {
+            processor: actor.processor,
+            start: new.starts[j],
+            asked: period::part(new.until[j], new.iteration),
+        };
+        most = most.later(wait(old, side));
+    }
+    most
+}
+
+// How long it waits for all of them.
+pub(crate) fn offset_of(old: Running, new: Running) -> Tick
+    requires { ⌜ Ready old × Ready new ⌝ }
+    ensures { λ r. ⌜ r ≡ offsetFrom LOAD-LIMIT old new ⌝ }
+{
+    let mut most = Tick(0);
+    for i in 0..ACTORS {
+        let actor = old.actors[i];
+        let side = Side {
+            processor: actor.processor,
+            start: old.starts[i],
+            asked: period::part(old.since[i], old.iteration),
+        };
+        most = most.later(waits(side, new));
+    }
+    most
+}

@@ -1,0 +1,2 @@
+-- What the proofs lean on.
+mod Settled

@@ -1,0 +1,109 @@
+-- channel::waits::latest meets its contract. The invariant: the latest start that the phases below f ask, and what they take is counted. Assumes nothing.
+use borrow.Author.Needs.{needs}
+use mathlib.Core.Path.{_≡_, refl, ap, ap₂, sym, subst₂, _∙_}
+use Prim.Native.Nat.{ℕ, _-_, _≤_}
+use native.Mathlib.Omega.{arith}
+use lib.ListN.{getD}
+use Rattle.numbers.specs.Extreme.{mostOf, most-next}
+use Rattle.numbers.specs.Sum.{sum}
+use Rattle.units.specs.declared.Tick.{Tick}
+use Rattle.units.specs.declared.Token.{Token}
+use Rattle.units.specs.Ticks.{tick, laterOf}
+use Rattle.terms.specs.Period.{firing}
+use Rattle.terms.specs.Rate.{tokensOf}
+use Rattle.channel.specs.declared.waits.Mark.{Mark}
+use Rattle.channel.specs.Flow.{ratesOf}
+use Rattle.channel.specs.Laws.{rate-at}
+use Rattle.channel.specs.Phases.{noMark, askedBy, askedOf}
+use Rattle.channel.specs.Bounds.{endOf, Early, take-early, ends-by, tokens-by, rate-by, tokens-next}
+use Rattle.channel.proofs.waits.latest.Statement.{statement}
+use Rattle.channel.proofs.waits.latest.Tie as tie
+
+abbrev Inv-loop : tie.InvT-loop
+Inv-loop gives n pace rates period phases latest₀ taken₀ f₀ latest taken f =
+    (f ≤ phases) × (latest ≡ tick (mostOf (λ f. askedOf (λ s. getD gives s noMark) n pace (endOf rates period phases) f .0) f))
+    × (taken ≡ tokensOf (ratesOf (endOf rates period phases)) (firing f))
+
+abbrev μ-loop : tie.MeasureT-loop
+μ-loop gives n pace rates period phases latest₀ taken₀ f₀ latest taken f = phases - f
+
+loop-holds : tie.Need-loop-holds Inv-loop μ-loop
+unfolding mostOf sum
+loop-holds c = (omega arith, refl, refl)
+
+array-read-moved : tie.Need-array-read-moved Inv-loop μ-loop
+array-read-moved c = omega (arith, c .before .before .before .before .pre .1 .proper .phases)
+
+added-requires : tie.Need-added-requires Inv-loop μ-loop
+added-requires c κs =
+    let l = c .before .before in
+    let t = l .before .before .before in
+    omega (
+      arith,
+      tokens-by (t .args .consumer) (t .pre .1 .proper) (l .loop .f) (omega arith),
+      ap (λ (x : Token). x .0) (l .loop .inv .2),
+      rate-by (t .args .consumer) (t .pre .1 .proper) (l .loop .f) (omega arith),
+      ap (λ (x : Token). x .0) (c .moved .ensures),
+    )
+
+begins-requires : tie.Need-begins-requires Inv-loop μ-loop
+begins-requires c κs =
+    let l = c .before .before .before in
+    let t = l .before .before .before in
+    omega (arith, ends-by (t .args .consumer) (l .loop .f) (t .pre .1) (omega arith))
+
+array-read-asked : tie.Need-array-read-asked Inv-loop μ-loop
+array-read-asked c = omega (arith, c .before .before .before .before .before .before .before .pre .1 .proper .phases)
+
+asked-requires : tie.Need-asked-requires Inv-loop μ-loop
+asked-requires c κs =
+    let l = c .before .before .before .before in
+    let t = l .before .before .before in
+    let taken = tokens-next (t .args .consumer) (t .pre .1 .proper) (l .loop .f) (omega arith) (l .loop .inv .2) (c .before .before .moved .ensures) (c .before .added .ensures) in (
+      t .pre .0,
+      t .pre .2,
+      subst₂ (λ (x : Tick) (y : Token). Early x y) (sym (c .begins .ensures)) (sym taken) (take-early (t .args .consumer) (l .loop .f) (t .pre .1) (omega arith)),
+    )
+
+loop-again : tie.Need-loop-again Inv-loop μ-loop
+loop-again c =
+    let d = c .before .before in
+    let l = d .before .before .before .before in
+    let t = l .before .before .before in
+    let q = t .args .consumer in
+    let f = l .loop .f in
+    let taken = tokens-next q (t .pre .1 .proper) f (omega arith) (l .loop .inv .2) (d .before .before .moved .ensures) (d .before .added .ensures) in
+    let gives : ℕ → Mark = λ s. getD (t .args .gives) s noMark in (
+      omega arith,
+      c .later .ensures
+          ∙ ap₂ laterOf (l .loop .inv .1)
+          (c .before .asked .ensures ∙ (λ i. askedBy gives (t .args .n) (t .args .pace) (d .begins .ensures i) (sym (rate-at q (t .pre .1 .proper) f (omega arith)) i) (taken i)))
+          ∙ (λ i. tick (sym (most-next (λ f. askedOf gives (t .args .n) (t .args .pace) q f .0) f) i)),
+      taken,
+    )
+
+returns : tie.Need-returns Inv-loop μ-loop
+returns c =
+    let t = c .before .before .before .before in
+    let e : c .before .loop .f ≡ t .args .consumer .phases = omega arith in
+    c .before .loop .inv .1
+    ∙ ap (λ (n : ℕ). tick (mostOf (λ f. askedOf (λ s. getD (t .args .gives) s noMark) (t .args .n) (t .args .pace) (t .args .consumer) f .0) n)) e
+
+pub latest-spec : {M : Type 1} → statement M
+latest-spec =
+    tie.close
+    (tie.spec
+    Inv-loop
+    μ-loop
+    loop-holds
+    array-read-moved
+    (λ c κs. search needs)
+    added-requires
+    begins-requires
+    array-read-asked
+    asked-requires
+    (λ c κs. search needs)
+    (λ c. omega arith)
+    (λ c. omega arith)
+    loop-again
+    returns)

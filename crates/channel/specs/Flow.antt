@@ -1,0 +1,69 @@
+-- The rules of one channel: no firing takes a token not yet there, and the size is the greatest number of places claimed at any time, for ever.
+use mathlib.Core.Path.{_≡_}
+use mathlib.Core.List.{List}
+use Prim.Native.Nat.{ℕ, _+_, _^_, _≤_, _<_}
+use lib.ListN.{length, getD, take}
+use Rattle.numbers.specs.Extreme.{Greatest}
+use Rattle.units.specs.declared.Tick.{Tick}
+use Rattle.units.specs.declared.Firing.{Firing}
+use Rattle.units.specs.declared.Token.{Token}
+use Rattle.units.specs.Ticks.{timesOf}
+use Rattle.units.specs.Tokens.{token}
+use Rattle.terms.specs.Limits.{PHASES, MOST-RATE, ITERATION-LIMIT}
+use Rattle.terms.specs.Period.{firing, next, beginsAt, HaveBegun, HaveEnded}
+use Rattle.terms.specs.Rate.{rateOf, tokensOf, times}
+use Rattle.channel.specs.declared.End.{End}
+
+-- the rates of an end, one for each phase
+abbrev pub ratesOf : End → List ℕ
+ratesOf e = take (e .phases) (e .rates)
+
+-- the tokens and the ticks of a cycle of an end: all its phases once
+abbrev pub cycleTokens : End → Token
+cycleTokens e = tokensOf (ratesOf e) (firing (e .phases))
+
+abbrev pub cycleTicks : End → Tick
+cycleTicks e = timesOf (e .period) (e .phases)
+
+-- No firing of the consumer c, which starts at sc, ever takes a token not yet there: what its firings up to firing n take is at most what the firings of
+-- the producer p, which starts at sp, have made that have ended by the tick at which firing n begins. A firing that takes nothing waits for nothing.
+abbrev pub Fed : End → Tick → End → Tick → Type 0
+Fed p sp c sc =
+    (n : ℕ) → 0 < rateOf (ratesOf c) n → (e : Firing) → HaveEnded sp (p .period) (beginsAt sc (c .period) (firing n)) e
+    → tokensOf (ratesOf c) (next (firing n)) .0 ≤ tokensOf (ratesOf p) e .0
+
+-- v places are claimed at tick t: room for output is claimed at the producer's beginning, room for input is given back at the end of the consumer's
+-- period, and at one tick giving back comes first
+abbrev pub Claimed : End → Tick → End → Tick → Tick → Token → Type 0
+Claimed p sp c sc t v =
+    (b : Firing) × (e : Firing) × HaveBegun sp (p .period) t b × HaveEnded sc (c .period) t e
+    × (tokensOf (ratesOf p) b .0 ≡ tokensOf (ratesOf c) e .0 + v .0)
+
+-- the size: the greatest number of places claimed at any tick
+abbrev pub IsSize : End → Tick → End → Tick → Token → Type 0
+IsSize p sp c sc r = Greatest (λ v. (t : Tick) × Claimed p sp c sc t (token v)) (r .0)
+
+-- an end within the limits of a table, whose rates are not all 0
+pub record Proper (e : End) : Type 0 where
+  pub some : 0 < e .phases
+  pub phases : e .phases ≤ PHASES
+  pub long : length (e .rates) ≡ PHASES
+  pub rates : (k : ℕ) → k < PHASES → getD (e .rates) k 0 ≤ MOST-RATE
+  pub moves : 0 < cycleTokens e .0
+
+-- two such ends that are balanced: in one iteration so many cycles of the producer make what so many of the consumer take, in the same ticks
+pub record Paced (p c : End) : Type 0 where
+  pub producer : Proper p
+  pub consumer : Proper c
+  pub makers : ℕ
+  pub takers : ℕ
+  pub iteration : Tick
+  pub even : times makers (cycleTokens p) ≡ times takers (cycleTokens c)
+  pub made-in : iteration ≡ timesOf (cycleTicks p) makers
+  pub taken-in : iteration ≡ timesOf (cycleTicks c) takers
+  pub some-ticks : 0 < iteration .0
+  pub within : iteration .0 ≤ ITERATION-LIMIT
+
+-- the latest start that is reckoned with
+abbrev pub MOST-START : ℕ
+MOST-START = 2 ^ 32

@@ -1,0 +1,127 @@
+// The places that a producer's phases claim while those of the consumer have not given theirs back.
+use crate::End;
+use crate::pace::Pace;
+use crate::pace::moved;
+use terms::limits::PHASES;
+use terms::period::begins;
+use terms::period::ends;
+use units::Firing;
+use units::Tick;
+use units::Token;
+ghost use mathlib.Core.Path.{_≡_};
+ghost use Prim.Native.Nat.{_≤_, _<_};
+ghost use lib.ListN.{getD};
+ghost use Rattle.numbers.specs.Extreme.{mostOf};
+ghost use Rattle.terms.specs.Limits.{PHASES};
+ghost use Rattle.channel.specs.Flow.{MOST-START};
+ghost use Rattle.channel.specs.Phases.{noHold, claimingOf, claimingAt, backOf, claimOf, heldOf, greatestOf};
+ghost use Rattle.channel.specs.Bounds.{MOST-TOKENS, Brief, Few, Long, Early, Given, Ready};
+
+// A phase of either end: by how many tokens it makes a claim more and fewer, and the ticks that are left over whole steps.
+pub(crate) struct Hold {
+    pub more: Token,
+    pub fewer: Token,
+    pub rest: Tick,
+}
+
+// A phase of the producer that has begun by a tick, with which so many tokens are made.
+fn claiming(pace: Pace, by: Tick, made: Token) -> Hold
+    requires { ⌜ Long pace × Early by made ⌝ }
+    ensures { λ r. ⌜ r ≡ claimingOf pace by made ⌝ }
+{
+    let step = pace.step;
+    let common = pace.common;
+    Hold {
+        more: made,
+        fewer: common.fold(by.per(step)),
+        rest: by.rest(step),
+    }
+}
+
+// The phases of the producer.
+pub(crate) fn claims(producer: End, start: Tick, pace: Pace) -> [Hold; PHASES]
+    requires { ⌜ Brief producer × (start .0 ≤ MOST-START) × Long pace ⌝ }
+    ensures { λ r. ⌜ Given noHold (claimingAt pace producer start) (producer .phases) r ⌝ }
+{
+    let rates = producer.rates;
+    let period = producer.period;
+    let n = producer.phases;
+    let none = Hold {
+        more: Token(0),
+        fewer: Token(0),
+        rest: Tick(0),
+    };
+    let mut holds = [none; PHASES];
+    let mut made = Token(0);
+    for s in 0..n {
+        made = made.added(moved(rates[s]));
+        let by = begins(start, period, Firing(s as u64)).plus(Tick(1));
+        holds[s] = claiming(pace, by, made);
+    }
+    holds
+}
+
+// A phase of the consumer that ends at a tick, before which so many tokens are taken.
+fn back(pace: Pace, ends: Tick, taken: Token) -> Hold
+    requires { ⌜ Long pace × Early ends taken ⌝ }
+    ensures { λ r. ⌜ r ≡ backOf pace ends taken ⌝ }
+{
+    let step = pace.step;
+    let common = pace.common;
+    let by = ends.plus(pace.ticks);
+    Hold {
+        more: common.fold(by.per(step)),
+        fewer: taken.added(pace.tokens),
+        rest: by.rest(step),
+    }
+}
+
+// The places that are claimed while the one has begun and the other has not ended.
+fn claim(claiming: Hold, back: Hold, common: Token) -> Token
+    requires { ⌜ Few claiming × Few back × (common .0 ≤ MOST-TOKENS) ⌝ }
+    ensures { λ r. ⌜ r ≡ claimOf common claiming back ⌝ }
+{
+    let more = claiming.more.added(back.more);
+    let fewer = claiming.fewer.added(back.fewer);
+    if claiming.rest.by(back.rest) {
+        return more.less(fewer);
+    }
+    more.less(fewer.added(common))
+}
+
+// The most places that are claimed while a phase of the consumer has not ended.
+fn held(claims: [Hold; PHASES], n: usize, back: Hold, common: Token) -> Token
+    requires { ⌜ Ready noHold Few n claims × Few back × (common .0 ≤ MOST-TOKENS) ⌝ }
+    ensures { λ r. ⌜ r ≡ heldOf (λ s. getD claims s noHold) n common back ⌝ }
+{
+    let mut most = Token(0);
+    for s in 0..n {
+        most = most.more(claim(claims[s], back, common));
+    }
+    most
+}
+
+// The most places that are ever claimed.
+pub(crate) fn greatest(
+    claims: [Hold; PHASES],
+    n: usize,
+    consumer: End,
+    start: Tick,
+    pace: Pace,
+) -> Token
+    requires { ⌜ Ready noHold Few n claims × Brief consumer × (start .0 ≤ MOST-START) × Long pace ⌝ }
+    ensures { λ r. ⌜ r ≡ greatestOf (λ s. getD claims s noHold) n pace consumer start ⌝ }
+{
+    let rates = consumer.rates;
+    let period = consumer.period;
+    let phases = consumer.phases;
+    let common = pace.common;
+    let mut most = Token(0);
+    let mut taken = Token(0);
+    for f in 0..phases {
+        let at = ends(start, period, Firing(f as u64));
+        most = most.more(held(claims, n, back(pace, at, taken), common));
+        taken = taken.added(moved(rates[f]));
+    }
+    most
+}

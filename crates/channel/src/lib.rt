@@ -1,0 +1,42 @@
+// One channel, for ever: the least start that it asks of its consumer, and the size of its buffer.
+mod claims;
+mod pace;
+mod waits;
+
+use pace::pace_of;
+use pace::ticks_of;
+use terms::limits::PHASES;
+use units::Tick;
+use units::Token;
+ghost use Prim.Native.Nat.{_≤_};
+ghost use Rattle.numbers.specs.Extreme.{Least};
+ghost use Rattle.units.specs.Ticks.{tick};
+ghost use Rattle.channel.specs.Flow.{Fed, IsSize, Paced, MOST-START};
+
+// One end of a channel: what each firing makes or takes, phase by phase, and the period of the firings.
+pub struct End {
+    pub phases: usize,
+    pub rates: [u8; PHASES],
+    pub period: Tick,
+}
+
+// The least start of the consumer at which no firing ever takes a token not yet there.
+pub fn least_start(producer: End, start: Tick, consumer: End) -> Tick
+    requires { ⌜ Paced producer consumer × (start .0 ≤ MOST-START) ⌝ }
+    ensures { λ r. ⌜ Least (λ s. Fed producer start consumer (tick s)) (r .0) ⌝ }
+{
+    let pace = pace_of(producer, consumer, 1);
+    let gives = waits::gives(producer, start, pace);
+    waits::latest(gives, producer.phases, consumer, pace)
+}
+
+// The size of the channel's buffer, where the consumer starts at `next`: the greatest number of places claimed at any time, for ever.
+pub fn size(producer: End, start: Tick, consumer: End, next: Tick) -> Token
+    requires { ⌜ Paced producer consumer × Fed producer start consumer next × (start .0 ≤ MOST-START) × (next .0 ≤ MOST-START) ⌝ }
+    ensures { λ r. ⌜ IsSize producer start consumer next r ⌝ }
+{
+    let cycles = start.per(ticks_of(producer)) + 2;
+    let pace = pace_of(producer, consumer, cycles);
+    let claims = claims::claims(producer, start, pace);
+    claims::greatest(claims, producer.phases, consumer, next, pace)
+}

@@ -1,0 +1,135 @@
+// The waits of a consumer's phases for those of the producer.
+use crate::End;
+use crate::pace::Pace;
+use crate::pace::moved;
+use terms::limits::PHASES;
+use terms::period::begins;
+use terms::period::ends;
+use units::Firing;
+use units::Tick;
+use units::Token;
+ghost use mathlib.Core.Path.{_≡_};
+ghost use Prim.Native.Nat.{_≤_, _<_};
+ghost use lib.ListN.{getD};
+ghost use Rattle.numbers.specs.Extreme.{mostOf};
+ghost use Rattle.terms.specs.Limits.{PHASES, ITERATION-LIMIT};
+ghost use Rattle.channel.specs.Flow.{MOST-START};
+ghost use Rattle.channel.specs.Phases.{noMark, giveOf, giveAt, takeOf, takeAt, waitOf, longestOf, askedBy, latestOf};
+ghost use Rattle.channel.specs.Bounds.{Brief, Near, Short, Early, Given, Ready};
+
+// A phase of either end: by how many ticks it brings a wait later and sooner, and the tokens that are left over whole steps.
+pub(crate) struct Mark {
+    pub later: Tick,
+    pub sooner: Tick,
+    pub rest: Token,
+}
+
+// A phase of the producer that ends at a tick, before which so many tokens are one too few.
+fn give(pace: Pace, ends: Tick, short: Token) -> Mark
+    requires { ⌜ Short pace × Early ends short ⌝ }
+    ensures { λ r. ⌜ r ≡ giveOf pace ends short ⌝ }
+{
+    let step = pace.step;
+    let common = pace.common;
+    Mark {
+        later: ends,
+        sooner: step.times(short.parts(common)),
+        rest: short.left(common),
+    }
+}
+
+// The phases of the producer.
+pub(crate) fn gives(producer: End, start: Tick, pace: Pace) -> [Mark; PHASES]
+    requires { ⌜ Brief producer × (start .0 ≤ MOST-START) × Short pace ⌝ }
+    ensures { λ r. ⌜ Given noMark (giveAt 0 pace producer start) (producer .phases) r ⌝ }
+{
+    let rates = producer.rates;
+    let period = producer.period;
+    let n = producer.phases;
+    let none = Mark {
+        later: Tick(0),
+        sooner: Tick(0),
+        rest: Token(0),
+    };
+    let mut marks = [none; PHASES];
+    let mut made = Token(0);
+    for s in 0..n {
+        marks[s] = give(
+            pace,
+            ends(start, period, Firing(s as u64)),
+            made.added(Token(1)),
+        );
+        made = made.added(moved(rates[s]));
+    }
+    marks
+}
+
+// A phase of the consumer that begins at a tick, until whose end so many tokens are taken.
+fn take(pace: Pace, begins: Tick, taken: Token) -> Mark
+    requires { ⌜ Short pace × Early begins taken ⌝ }
+    ensures { λ r. ⌜ r ≡ takeOf pace begins taken ⌝ }
+{
+    let step = pace.step;
+    let common = pace.common;
+    let due = taken.added(pace.tokens);
+    Mark {
+        later: step.times(due.parts(common)),
+        sooner: begins.plus(pace.ticks),
+        rest: due.left(common),
+    }
+}
+
+// The wait of the one for the other.
+fn wait(give: Mark, take: Mark, step: Tick) -> Tick
+    requires { ⌜ Near give × Near take × (step .0 ≤ ITERATION-LIMIT) ⌝ }
+    ensures { λ r. ⌜ r ≡ waitOf step give take ⌝ }
+{
+    let later = give.later.plus(take.later);
+    let sooner = give.sooner.plus(take.sooner);
+    if give.rest.within(take.rest) {
+        return later.minus(sooner);
+    }
+    later.minus(sooner.plus(step))
+}
+
+// The longest wait of a phase of the consumer.
+fn longest(gives: [Mark; PHASES], n: usize, take: Mark, step: Tick) -> Tick
+    requires { ⌜ Ready noMark Near n gives × Near take × (step .0 ≤ ITERATION-LIMIT) ⌝ }
+    ensures { λ r. ⌜ r ≡ longestOf (λ s. getD gives s noMark) n step take ⌝ }
+{
+    let mut longest = Tick(0);
+    for s in 0..n {
+        longest = longest.later(wait(gives[s], take, step));
+    }
+    longest
+}
+
+// The start that a phase of the consumer asks, which takes at this rate: none where it takes nothing.
+fn asked(gives: [Mark; PHASES], n: usize, pace: Pace, begins: Tick, rate: u8, taken: Token) -> Tick
+    requires { ⌜ Ready noMark Near n gives × Short pace × Early begins taken ⌝ }
+    ensures { λ r. ⌜ r ≡ askedBy (λ s. getD gives s noMark) n pace begins rate taken ⌝ }
+{
+    if rate == 0 {
+        return Tick(0);
+    }
+    let step = pace.step;
+    longest(gives, n, take(pace, begins, taken), step)
+}
+
+// The latest start that a phase of the consumer asks.
+pub(crate) fn latest(gives: [Mark; PHASES], n: usize, consumer: End, pace: Pace) -> Tick
+    requires { ⌜ Ready noMark Near n gives × Brief consumer × Short pace ⌝ }
+    ensures { λ r. ⌜ r ≡ latestOf (λ s. getD gives s noMark) n pace consumer ⌝ }
+{
+    let rates = consumer.rates;
+    let period = consumer.period;
+    let phases = consumer.phases;
+    let mut latest = Tick(0);
+    let mut taken = Token(0);
+    for f in 0..phases {
+        taken = taken.added(moved(rates[f]));
+        let at = begins(Tick(0), period, Firing(f as u64));
+        latest = latest.later(asked(gives, n, pace, at, rates[f], taken));
+    }
+    latest
+}

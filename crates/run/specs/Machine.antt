@@ -1,0 +1,84 @@
+-- The running machine: requests, refusals, and the visits of a run.
+use Prim.Native.Nat.{ℕ, _+_, _-_, _*_, _^_, max}
+use mathlib.Core.Bool.{not, _||_, cond}
+use mathlib.Core.List.{List, [], _∷_}
+use lib.Dec.{ltb, eqb}
+use Rattle.numbers.specs.Reckoned.{roundedOf}
+use Rattle.run.specs.Plan.{Plan, sinkStart, startup}
+
+-- a mode, its starting tick, and the tick at which its change ends
+pub record Machine : Type 0 where
+  pub mode : ℕ
+  pub started : ℕ
+  pub ended : ℕ
+
+-- the mode asked for, and the tick of asking
+pub record Request : Type 0 where
+  pub mode : ℕ
+  pub tick : ℕ
+
+-- the number of the refusal, and 0 for a request that is accepted
+unfoldable pub refusal : Plan → Machine → Request → ℕ
+refusal p m r =
+    cond (not (p .listed (m .mode)) || ltb (m .ended) (m .started)) 16
+    (cond (not (p .listed (r .mode))) 11
+    (cond (eqb (r .mode) (m .mode)) 12
+    (cond (ltb (2 ^ 62) (r .tick)) 13
+    (cond (ltb (r .tick) (m .ended)) 14 0))))
+
+-- F: the old mode is left after whole iterations, (t - s) / H rounded up
+abbrev pub leaving : Plan → Machine → Request → ℕ
+leaving p m r = m .started + p .iteration (m .mode) * roundedOf (r .tick - m .started) (p .iteration (m .mode))
+
+-- the machine after an accepted request: the new mode starts at F + d, and the change has ended when both start-ups have
+abbrev pub next : Plan → Machine → Request → Machine
+next p m r = record {
+  mode = r .mode;
+  started = leaving p m r + p .offset (m .mode) (r .mode);
+  ended = max (leaving p m r + startup p (m .mode)) (leaving p m r + p .offset (m .mode) (r .mode) + startup p (r .mode));
+}
+
+-- the delay of an accepted request: F + d + the sink's start in the new mode - t
+abbrev pub delay : Plan → Machine → Request → ℕ
+delay p m r = leaving p m r + p .offset (m .mode) (r .mode) + sinkStart p (r .mode) - r .tick
+
+-- the worst delay of a change from mode o to mode l
+abbrev pub worst : Plan → ℕ → ℕ → ℕ
+worst p o l = p .offset o l + sinkStart p l + p .iteration o - 1
+
+-- A visit is one stay in a mode: the tick at which it starts and, once a request has ended it, F.
+pub data Leave : Type 0 where
+  stays : Leave
+  leaves : ℕ → Leave
+
+pub record Visit : Type 0 where
+  pub mode : ℕ
+  pub start : ℕ
+  pub leave : Leave
+
+abbrev pub visit : Machine → Leave → Visit
+visit m l = record { mode = m .mode; start = m .started; leave = l }
+
+-- A run up to now: the machine, and the visits that were left, the latest first.
+pub record Run : Type 0 where
+  pub now : Machine
+  pub past : List Visit
+
+abbrev pub visits : Run → List Visit
+visits s = visit (s .now) stays ∷ s .past
+
+-- a machine begins at tick 0, and its first change counts as ended at the end of the start-up
+abbrev pub begin : Plan → ℕ → Run
+begin p m = record { now = record { mode = m; started = 0; ended = startup p m }; past = [] }
+
+-- a request is answered: a refused one changes nothing
+unfoldable pub answer : Plan → Run → Request → Run
+answer p s r =
+    cond (eqb (refusal p (s .now) r) 0)
+    (record { now = next p (s .now) r; past = visit (s .now) (leaves (leaving p (s .now) r)) ∷ s .past })
+    s
+
+-- a list of requests, answered one after the other
+unfoldable pub run : Plan → Run → List Request → Run
+run p s [] = s
+run p s (r ∷ rs) = run p (answer p s r) rs

@@ -1,0 +1,57 @@
+-- A plan, as functions of mode, actor, channel and firing.
+use Prim.Native.Nat.{ℕ, _<_}
+use mathlib.Core.Bool.{Bool, _&&_}
+use lib.Dec.{T, eqb}
+use Rattle.numbers.specs.declared.fraction.Fraction.{Fraction}
+
+-- Modes, actors, channels and processors are numbers, and a mode comes first among the arguments. Times are in ticks.
+pub record Plan : Type 0 where
+  -- the modes that can be run
+  pub listed : ℕ → Bool
+  -- each actor is below this; those that are active in a mode; the processor of an actor, in all modes
+  pub actors : ℕ
+  pub active : ℕ → ℕ → Bool
+  pub processor : ℕ → ℕ
+  -- of an actor of a mode: the longest time of a firing, the firings of an iteration, the period T, the start S
+  pub wcet : ℕ → ℕ → ℕ
+  pub firings : ℕ → ℕ → ℕ
+  pub period : ℕ → ℕ → ℕ
+  pub start : ℕ → ℕ → ℕ
+  -- of a mode: the iteration H, the actor that is its sink, and its channels, which are those below this
+  pub iteration : ℕ → ℕ
+  pub sink : ℕ → ℕ
+  pub channels : ℕ → ℕ
+  -- of a channel of a mode: its two actors, the tokens that firing n of the one makes and firing n of the other takes, the size of its buffer
+  pub from : ℕ → ℕ → ℕ
+  pub to : ℕ → ℕ → ℕ
+  pub production : ℕ → ℕ → ℕ → ℕ
+  pub consumption : ℕ → ℕ → ℕ → ℕ
+  pub size : ℕ → ℕ → ℕ
+  -- the offset d of a change from one mode to another
+  pub offset : ℕ → ℕ → ℕ
+
+-- the sink's start, and the end of a mode's start-up, which is that tick
+abbrev pub sinkStart : Plan → ℕ → ℕ
+sinkStart p m = p .start m (p .sink m)
+
+abbrev pub startup : Plan → ℕ → ℕ
+startup p m = sinkStart p m
+
+-- actor i is active in mode m
+abbrev pub Acts : Plan → ℕ → ℕ → Type 0
+Acts p m i = (i < p .actors) × T (p .active m i)
+
+-- and works on the processor
+abbrev pub isOn : Plan → ℕ → ℕ → ℕ → Bool
+isOn p m proc i = p .active m i && eqb (p .processor i) proc
+
+-- what an actor asks of its processor: wcet / T
+abbrev pub askedBy : Plan → ℕ → ℕ → Fraction
+askedBy p m i = record { over = p .wcet m i; under = p .period m i }
+
+-- no part of a processor's time, and all of it
+abbrev pub nothing : Fraction
+nothing = record { over = 0; under = 1 }
+
+abbrev pub whole : Fraction
+whole = record { over = 1; under = 1 }

@@ -1,0 +1,9 @@
+-- What the proofs lean on, and the laws for the crates above.
+mod Sound
+mod Finding
+mod Sizing
+pub mod Unique
+pub mod Modelled
+pub mod Laws
+mod Settled
+mod Worked

@@ -1,0 +1,66 @@
+// When each actor of a mode starts, and how much room each channel needs.
+mod rooms;
+mod starts;
+
+use graph::Judgement;
+use graph::shape::Mode;
+use terms::limits::ACTORS;
+use terms::limits::CHANNELS;
+use units::Tick;
+use units::Token;
+ghost use mathlib.Core.Path.{_≡_};
+ghost use Rattle.graph.specs.declared.Verdict.the-variants.{Sound};
+ghost use Rattle.graph.specs.Proper.{ProperMode};
+ghost use Rattle.graph.specs.Judged.{Judged};
+ghost use Rattle.schedule.specs.Scheduled.{lateBy, Scheduled};
+
+// Whether some actor starts later than the sink: the lowest such actor, by its place.
+pub enum Timing {
+    Late(usize),
+    OnTime,
+}
+
+// What is scheduled of a mode: the tick at which its start-up ends, the start of each actor, and for each channel the size of its buffer and its tokens in
+// an iteration.
+pub struct Timetable {
+    pub timing: Timing,
+    pub startup: Tick,
+    pub starts: [Tick; ACTORS],
+    pub sizes: [Token; CHANNELS],
+    pub tokens: [Token; CHANNELS],
+}
+
+fn refused(actor: usize) -> Timetable
+    ensures { λ r. ⌜ r ≡ lateBy actor ⌝ }
+{
+    Timetable {
+        timing: Timing::Late(actor),
+        startup: Tick(0),
+        starts: [Tick(0); ACTORS],
+        sizes: [Token(0); CHANNELS],
+        tokens: [Token(0); CHANNELS],
+    }
+}
+
+// Schedules a mode whose judgement is sound.
+pub fn schedule(mode: Mode, judged: Judgement) -> Timetable
+    requires { ⌜ ProperMode mode × Judged mode judged × (judged .verdict ≡ Sound) ⌝ }
+    ensures { λ r. ⌜ Scheduled mode judged r ⌝ }
+{
+    let periods = judged.periods;
+    let depths = judged.depths;
+    let firings = judged.firings;
+    let sink = judged.sink;
+    let starts = starts::starts_of(mode, periods, depths);
+    let startup = starts[sink];
+    if let Timing::Late(actor) = starts::late(starts, mode.active, startup) {
+        return refused(actor);
+    }
+    Timetable {
+        timing: Timing::OnTime,
+        startup,
+        starts,
+        sizes: rooms::sizes_of(mode, periods, starts),
+        tokens: rooms::tokens_of(mode, firings),
+    }
+}

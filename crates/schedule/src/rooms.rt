@@ -1,0 +1,102 @@
+// The room that each channel of a mode needs, and its tokens.
+use channel::End;
+use channel::size;
+use graph::shape::Actor;
+use graph::shape::Channel;
+use graph::shape::Mode;
+use terms::limits::ACTORS;
+use terms::limits::CHANNELS;
+use terms::limits::PHASES;
+use terms::rate;
+use units::Firing;
+use units::Tick;
+use units::Token;
+ghost use mathlib.Core.Path.{_≡_};
+ghost use Prim.Native.Nat.{_*_, _≤_};
+ghost use lib.ListN.{length, take};
+ghost use Rattle.terms.specs.Limits.{PHASES, ITERATION-LIMIT};
+ghost use Rattle.units.specs.Tokens.{token};
+ghost use Rattle.terms.specs.Rate.{tokensOf};
+ghost use Rattle.graph.specs.Proper.{ProperMode};
+ghost use Rattle.graph.specs.Lengths.{Few};
+ghost use Rattle.channel.specs.Flow.{Fed, IsSize, Paced, MOST-START};
+ghost use Rattle.schedule.specs.Starts.{givesOf, takesOf};
+ghost use Rattle.schedule.specs.Scheduled.{Sizes, ofChannels, tokensOn};
+ghost use Rattle.schedule.specs.Reached.{startAt, Fits};
+
+// The size of a channel's buffer: the periods and the starts of its actors are given.
+fn room(
+    channel: Channel,
+    maker: Actor,
+    made: Tick,
+    start: Tick,
+    taker: Actor,
+    taken: Tick,
+    next: Tick,
+) -> Token
+    requires { ⌜ Paced (givesOf channel maker made) (takesOf channel taker taken) × Fed (givesOf channel maker made) start (takesOf channel taker taken) next × (start .0 ≤ MOST-START) × (next .0 ≤ MOST-START) ⌝ }
+    ensures { λ r. ⌜ IsSize (givesOf channel maker made) start (takesOf channel taker taken) next r ⌝ }
+{
+    let production = channel.production;
+    let consumption = channel.consumption;
+    let producer = End {
+        phases: maker.phases,
+        rates: production,
+        period: made,
+    };
+    let consumer = End {
+        phases: taker.phases,
+        rates: consumption,
+        period: taken,
+    };
+    size(producer, start, consumer, next)
+}
+
+pub(crate) fn sizes_of(
+    mode: Mode,
+    periods: [Tick; ACTORS],
+    starts: [Tick; ACTORS],
+) -> [Token; CHANNELS]
+    requires { ⌜ Fits mode periods starts ⌝ }
+    ensures { λ r. ⌜ Sizes mode periods (startAt starts) r ⌝ }
+{
+    let mut sizes = [Token(0); CHANNELS];
+    for k in 0..mode.count {
+        let channel = mode.channels[k];
+        let from = channel.from;
+        let to = channel.to;
+        sizes[k] = room(
+            channel,
+            mode.actors[from],
+            periods[from],
+            starts[from],
+            mode.actors[to],
+            periods[to],
+            starts[to],
+        );
+    }
+    sizes
+}
+
+// What so many firings of a producer make.
+fn made(phases: usize, rates: [u8; PHASES], firings: Firing) -> Token
+    requires { ⌜ (phases ≤ PHASES) × (length rates ≡ PHASES) × (firings .0 ≤ PHASES * ITERATION-LIMIT) ⌝ }
+    ensures { λ r. ⌜ r ≡ tokensOf (take phases rates) firings ⌝ }
+{
+    rate::tokens(&rates[..phases], firings)
+}
+
+pub(crate) fn tokens_of(mode: Mode, firings: [Firing; ACTORS]) -> [Token; CHANNELS]
+    requires { ⌜ ProperMode mode × Few firings ⌝ }
+    ensures { λ r. ⌜ r ≡ ofChannels mode (tokensOn mode firings) (token 0) ⌝ }
+{
+    let mut tokens = [Token(0); CHANNELS];
+    for k in 0..mode.count {
+        let channel = mode.channels[k];
+        let from = channel.from;
+        let actor = mode.actors[from];
+        let production = channel.production;
+        tokens[k] = made(actor.phases, production, firings[from]);
+    }
+    tokens
+}
