@@ -6,7 +6,7 @@ mod Flows
 mod Multiples
 mod Lasting
 mod Shared
-mod Judging
-mod Unique
+pub mod Judging
+pub mod Unique
 mod Settled
 mod Worked

@@ -1,5 +1,5 @@
 -- What the proofs lean on, and the laws for the crates above.
-mod Sound
+pub mod Sound
 mod Finding
 mod Sizing
 pub mod Unique

@@ -1,5 +1,5 @@
 -- The tables that texts read as are the proper ones: each is written as a text that reads as it again. Assumes nothing.
-use mathlib.Core.Path.{_≡_, refl, sym, ap, subst}
+use mathlib.Core.Path.{_≡_, refl, sym, ap, subst, _∙_}
 use mathlib.Core.List.{List}
 use Prim.Native.Nat.{ℕ}
 use native.Mathlib.Omega.{arith}
@@ -12,6 +12,7 @@ use Rattle.table.specs.Rows.{Row}
 use Rattle.table.specs.Told.{Outcome, rows, refused, Of, wrong-length, right-length, tableOf, readingOf, Told}
 use Rattle.table.specs.Writing.{rowsOf, written}
 use Rattle.table.proofs.Lookup.{start}
+use Rattle.table.proofs.Telling.{of-one}
 use Rattle.table.proofs.Reread.{read-again, after-passed, after-some}
 use Rattle.table.proofs.Kept.{proper}
 use Rattle.table.proofs.Rewritten.{rows-passed, rows-table}
@@ -38,3 +39,7 @@ reads-proper text t (o, of, e) = go o of e
     go (refused n r) of e =
         let f : Read ≡ Refused (record { number = n; place = AtRow r }) = ap (λ (x : Reading). x .answer) e in
         let z : _≡_ {A = ℕ} 0 1 = cc in absurd (omega arith)
+
+-- a text is told of in one way only
+pub told-one : {text : List ℕ} {x y : Reading} → Told text x → Told text y → x ≡ y
+told-one p q = p .2 ∙ ap readingOf (of-one (p .1) (q .1)) ∙ sym (q .2)

@@ -1,5 +1,6 @@
 // The reader of tables: RFC 4180 text to modes, or the first refusal of 1 to 5.
 ghost use mathlib.Core.Path.{_≡_};
+ghost use Rattle.graph.specs.Shape.{emptyTable};
 ghost use Rattle.table.specs.Told.{Told, readingOf, refused as refusedAt};
 
 pub mod bytes;
@@ -33,6 +34,13 @@ fn refused(number: u64, row: u64) -> Reading
         answer: Answer::Refused(Refusal { number, place }),
         table: row::nothing(),
     }
+}
+
+// A table in which nothing is listed.
+pub fn empty() -> Table
+    ensures { λ r. ⌜ r ≡ emptyTable ⌝ }
+{
+    row::nothing()
 }
 
 // Reads a text.

@@ -1,0 +1,84 @@
+-- A list that is filled, or found to be filled, from the front.
+use mathlib.Core.Path.{_≡_, refl, sym, ap, ap₂, subst, _∙_}
+use mathlib.Core.List.{List, [], _++_, append-assoc, append-nil}
+use mathlib.Core.Logic.{_↔_}
+use Prim.Native.Nat.{ℕ, _+_, _-_, _*_, _≤_, _<_}
+use native.Mathlib.Nat.{mul-suc, mul-le-mul-left, le-of-eq}
+use native.Mathlib.Omega.{arith}
+use lib.ListN.{length, take, drop, length-append, length-take, length-drop, drop-of-length-le}
+use lib.Seq.{take-at, drop-at, take-all, take-add, sets, sets-eq}
+use borrow.Rule.Slice.PartMut.{putMid}
+use Rattle.layout.specs.Joined.{joined, part, joined-next, length-joined}
+
+-- w has n elements, and begins with p
+pub record Laid {A : Type 0} (n : ℕ) (p w : List A) : Type 0 where
+  pub long : length w ≡ n
+  pub laid : take (length p) w ≡ p
+
+module _ {A : Type 0} {n : ℕ} where
+  pub laid-none : {w : List A} → length w ≡ n → Laid n [] w
+  laid-none e = record { long = e; laid = refl }
+
+  pub laid-all : {p w : List A} → Laid n p w → length p ≡ n → w ≡ p
+  laid-all {p} {w} l e = sym (take-all (length p) w (omega (arith, l .long))) ∙ l .laid
+
+  -- b is put behind p, or stands there
+  pub laid-put : {p w b v : List A} (a k : ℕ) → b ≡ v → Laid n p w → length p ≡ a → length v ≡ k → a + k ≤ n → Laid n (p ++ v) (putMid a k w b)
+  laid-put {p} {w} {b} {v} a k q l e g h =
+      let rest = drop k (drop a w) in
+      let front : take a w ≡ p = ap (λ (j : ℕ). take j w) (sym e) ∙ l .laid in
+      record {
+        long =
+            length-append (take a w) (b ++ rest)
+            ∙ omega (arith, l .long, length-append b rest, length-take a w, length-drop k (drop a w), length-drop a w, ap length q);
+        laid =
+            ap (take (length (p ++ v))) (ap₂ (λ (x y : List A). x ++ (y ++ rest)) front q ∙ sym (append-assoc p v rest))
+            ∙ take-at (p ++ v) rest (length (p ++ v)) refl;
+      }
+
+  pub laid-same : {p w : List A} (a k : ℕ) (b : List A) → Laid n p w → length p ≡ a → length b ≡ k → take k (drop a w) ≡ b → Laid n (p ++ b) w
+  laid-same {p} {w} a k b l e g h =
+      let front : take a w ≡ p = ap (λ (j : ℕ). take j w) (sym e) ∙ l .laid in
+      record {
+        long = l .long;
+        laid = ap (λ (j : ℕ). take j w) (length-append p b ∙ ap₂ _+_ e g) ∙ take-add a k w ∙ ap₂ _++_ front h;
+      }
+
+-- a list of two parts, the first of which is p, is p with q behind it exactly when the other is q
+pub two-parts : {A : Type 0} (a k : ℕ) (p q w : List A) → length p ≡ a → length q ≡ k → length w ≡ a + k → take a w ≡ p
+    → (take k (drop a w) ≡ q) ↔ (w ≡ p ++ q)
+two-parts a k p q w e g h f = (
+  λ s. laid-all (laid-same a k q (laid-same 0 a p (laid-none h) refl e f) e g s) (length-append p q ∙ ap₂ _+_ e g),
+  λ s. ap (λ l. take k (drop a l)) s ∙ ap (take k) (drop-at p q a e) ∙ take-all k q (le-of-eq g),
+)
+
+-- the same of n parts of k elements: in the first i of them stand the first i of the lists that are joined
+abbrev pub Begun : {A : Type 0} → ℕ → (ℕ → List A) → ℕ → List A → ℕ → Type 0
+Begun k f n w i = Laid (k * n) (joined i f) w
+
+module _ {A : Type 0} (k : ℕ) (f : ℕ → List A) (each : (i : ℕ) → length (f i) ≡ k) (n : ℕ) where
+  pub begun-none : (w : List A) → length w ≡ k * n → Begun k f n w 0
+  unfolding joined
+  begun-none w e = laid-none e
+
+  pub begun-put : (w b : List A) (i : ℕ) → i < n → b ≡ f i → Begun k f n w i → Begun k f n (putMid (k * i) (k * i + k - k * i) w b) (i + 1)
+  begun-put w b i h g l =
+      let wide : k * i + k - k * i ≡ k = omega arith in
+      rw (joined-next k f each i, wide)
+      (laid-put (k * i) k g l (length-joined k f each i) (each i) (omega (arith, mul-le-mul-left k h, mul-suc k i)))
+
+  pub begun-same : (w : List A) (i : ℕ) → part k i w ≡ f i → Begun k f n w i → Begun k f n w (i + 1)
+  begun-same w i g l = rw (joined-next k f each i) (laid-same (k * i) k (f i) l (length-joined k f each i) (each i) g)
+
+  pub begun-all : (w : List A) (i : ℕ) → i ≡ n → Begun k f n w i → w ≡ joined n f
+  begun-all w i e l = laid-all (subst (λ (j : ℕ). Begun k f n w j) e l) (length-joined k f each n)
+
+-- part i, by its two ends
+pub part-is : {A : Type 0} (k i : ℕ) (l : List A) → take (k * i + k - k * i) (drop (k * i) l) ≡ part k i l
+part-is k i l = let e : k * i + k - k * i ≡ k = omega arith in ap (λ (n : ℕ). take n (drop (k * i) l)) e
+
+-- numbers stored one by one fill a list that is as long
+pub stored : (vs l : List ℕ) → length l ≡ length vs → sets l 0 vs ≡ vs
+stored vs l h =
+    sets-eq vs l 0 (omega arith)
+    ∙ ap (λ (t : List ℕ). vs ++ t) (drop-of-length-le l {i = 0 + length vs} (omega arith)) ∙ append-nil vs

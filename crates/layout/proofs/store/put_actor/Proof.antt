@@ -1,0 +1,33 @@
+-- layout::store::put_actor meets its contract. Assumes nothing.
+use borrow.Author.Needs.{needs}
+use native.Mathlib.Omega.{arith}
+use denote.Ref.{now}
+use lib.ListN.{length-set}
+use Rattle.layout.specs.Words.{actorWords}
+use Rattle.layout.proofs.Laid.{stored}
+use Rattle.layout.proofs.store.put_actor.Statement.{statement}
+use Rattle.layout.proofs.store.put_actor.Tie as tie
+
+returns : tie.Need-returns
+returns c =
+    let s = c .before .before .before .before .before .before in
+    let a = s .args in
+    simp (c .ticks3 .ensures, c .before .ticks2 .ensures, c .before .before .firings .ensures, c .before .before .before .ticks .ensures)
+    (stored (actorWords (a .actor) (a .firings) (a .period) (a .start)) (now (a .words)) (s .pre))
+
+pub put-actor-spec : {M : Type 1} → statement M
+put-actor-spec =
+    tie.close
+    (tie.spec
+    (λ c. omega arith)
+    (λ c κs. search needs)
+    (λ c. simp length-set (omega arith))
+    (λ c. simp length-set (omega arith))
+    (λ c κs. search needs)
+    (λ c. simp length-set (omega arith))
+    (λ c κs. search needs)
+    (λ c. simp length-set (omega arith))
+    (λ c κs. search needs)
+    (λ c. simp length-set (omega arith))
+    (λ c. search needs)
+    returns)

@@ -1,0 +1,42 @@
+-- layout::store::put_rates meets its contract. The invariant: the rates below k are written. Assumes nothing.
+use borrow.Author.Needs.{needs}
+use mathlib.Core.Path.{_≡_, refl}
+use Prim.Native.Nat.{ℕ, _≤_, _<_, _-_}
+use native.Mathlib.Nat.{not-suc-le-zero}
+use native.Mathlib.Omega.{arith}
+use lib.ListN.{length, getD, length-set}
+use Rattle.numbers.specs.Tab.{is-tab, filled-more}
+use Rattle.terms.specs.Limits.{PHASES}
+use Rattle.layout.proofs.store.put_rates.Statement.{statement}
+use Rattle.layout.proofs.store.put_rates.Tie as tie
+
+abbrev Inv-loop : tie.InvT-loop
+Inv-loop words₀ rates k₀ words k = (k ≤ PHASES) × (length words ≡ PHASES) × ((j : ℕ) → j < k → getD words j 0 ≡ getD rates j 0)
+
+abbrev μ-loop : tie.MeasureT-loop
+μ-loop words₀ rates k₀ words k = PHASES - k
+
+loop-again : tie.Need-loop-again Inv-loop μ-loop
+loop-again c =
+    let l = c .before .loop in
+    (omega arith, simp length-set (omega arith), filled-more _ (l .words) (l .k) _ 0 (omega arith) refl (l .inv .2))
+
+returns : tie.Need-returns Inv-loop μ-loop
+returns c = is-tab PHASES _ _ 0 (c .before .loop .inv .1) (λ j h. c .before .loop .inv .2 j (omega arith))
+
+pub put-rates-spec : {M : Type 1} → statement M
+put-rates-spec =
+    tie.close
+    (tie.spec
+    Inv-loop
+    μ-loop
+    (λ c. (omega arith, omega arith, λ j h. absurd (not-suc-le-zero h)))
+    (λ c. search needs)
+    (λ c. search needs)
+    (λ c. omega arith)
+    (λ c. omega arith)
+    (λ c. omega arith)
+    (λ c. omega arith)
+    loop-again
+    (λ c. search needs)
+    returns)

@@ -1,0 +1,40 @@
+-- layout::write meets its contract. Assumes nothing.
+use borrow.Author.Needs.{needs}
+use mathlib.Core.Path.{refl}
+use native.Mathlib.Omega.{arith}
+use denote.Ref.{now}
+use Rattle.layout.specs.Words.{wordsOf}
+use Rattle.layout.specs.Laws.{length-modes, length-changes, length-words}
+use Rattle.layout.proofs.Laid.{laid-none, laid-put, laid-all}
+use Rattle.layout.proofs.write.Statement.{statement}
+use Rattle.layout.proofs.write.Tie as tie
+
+returns : tie.Need-returns
+unfolding wordsOf
+returns c =
+    let s = c .before .before .before .before .before .before .before .before .before in
+    let t = s .args .table in
+    let w = s .args .whole in
+    let modes = c .before .before .before .before .before .before .put-modes .ensures in
+    laid-all
+    (laid-put 5928 192 (c .before .before .put-changes .ensures)
+    (laid-put 0 5928 modes (laid-none {w = now (s .args .words)} (s .pre)) refl (length-modes t w) (omega arith))
+    (length-modes t w)
+    (length-changes w)
+    (omega arith))
+    (length-words t w)
+
+pub write-spec : {M : Type 1} → statement M
+write-spec =
+    tie.close
+    (tie.spec
+    (λ c. search needs)
+    (λ c. search needs)
+    (λ c. search needs)
+    (λ c κs. search needs)
+    (λ c. search needs)
+    (λ c. search needs)
+    (λ c. search needs)
+    (λ c κs. search needs)
+    (λ c. search needs)
+    returns)

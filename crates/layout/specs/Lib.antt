@@ -1,0 +1,5 @@
+-- The words of a plan, and the table that is read from them.
+pub mod Joined
+pub mod Words
+pub mod Read
+pub mod Laws

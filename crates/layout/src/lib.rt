@@ -1,0 +1,55 @@
+// The plan buffer: words that hold a table and all that is planned of it, every one of them settled.
+mod compare;
+mod load;
+mod store;
+
+use graph::shape::Table;
+use terms::limits::MODES;
+use whole::Whole;
+ghost use mathlib.Core.Path.{_≡_};
+ghost use lib.ListN.{length};
+ghost use Rattle.numbers.specs.Decides.{Decides};
+ghost use Rattle.layout.specs.Words.{WORDS, wordsOf};
+ghost use Rattle.layout.specs.Read.{graphOf};
+
+// The words of the buffer.
+pub const WORDS: usize = 6120;
+
+// Where the changes begin.
+const MODES_END: usize = 5928;
+
+// Writes the plan of a table.
+pub fn write(table: Table, whole: Whole, words: &mut [u64])
+    requires { ⌜ length (now words) ≡ WORDS ⌝ }
+    ensures { λ _. ⌜ now (words .exit) ≡ wordsOf table whole ⌝ }
+{
+    store::put_modes(table, whole, &mut words[0..MODES_END]);
+    store::put_changes(whole, &mut words[MODES_END..WORDS]);
+}
+
+// Whether a buffer is what the plan of a table leaves.
+pub fn holds(table: Table, whole: Whole, words: &[u64]) -> bool
+    ensures { λ r. ⌜ Decides (now (words .entry) ≡ wordsOf table whole) r ⌝ }
+{
+    if words.len() != WORDS {
+        return false;
+    }
+    if !compare::modes_hold(table, whole, &words[0..MODES_END]) {
+        return false;
+    }
+    compare::changes_hold(whole, &words[MODES_END..WORDS])
+}
+
+// The table that a buffer holds.
+pub fn graph_of(words: &[u64]) -> Table
+    requires { ⌜ length (now words) ≡ WORDS ⌝ }
+    ensures { λ r. ⌜ r ≡ graphOf (now (words .entry)) ⌝ }
+{
+    let mut modes = [load::no_mode(); MODES];
+    for m in 0..MODES {
+        let a = store::MODE_WORDS * m;
+        let e = a + store::MODE_WORDS;
+        modes[m] = load::mode_of(&words[a..e]);
+    }
+    Table { modes }
+}

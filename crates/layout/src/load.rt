@@ -1,0 +1,128 @@
+// A table is read from words: each function is lent the part that it reads.
+use crate::store::ACTOR_WORDS;
+use crate::store::ACTORS_AT;
+use crate::store::CHANNEL_WORDS;
+use crate::store::CHANNELS_AT;
+use crate::store::MODE_WORDS;
+use graph::shape::Actor;
+use graph::shape::Channel;
+use graph::shape::Mode;
+use terms::limits::ACTORS;
+use terms::limits::CHANNELS;
+use terms::limits::PHASES;
+use units::Tick;
+ghost use mathlib.Core.Path.{_≡_};
+ghost use Prim.Native.Nat.{_*_};
+ghost use lib.ListN.{length};
+ghost use Rattle.terms.specs.Limits.{ACTORS, CHANNELS, PHASES};
+ghost use Rattle.graph.specs.Shape.{noActor, emptyChannel, emptyMode};
+ghost use Rattle.layout.specs.Words.{ACTOR-WORDS, CHANNEL-WORDS, MODE-WORDS};
+ghost use Rattle.layout.specs.Read.{actorOf, ratesOf, channelOf, actorsOf, channelsOf, modeOf};
+
+fn no_actor() -> Actor
+    ensures { λ r. ⌜ r ≡ noActor ⌝ }
+{
+    Actor {
+        phases: 0,
+        wcet: Tick(0),
+        processor: 0,
+    }
+}
+
+fn no_channel() -> Channel
+    ensures { λ r. ⌜ r ≡ emptyChannel ⌝ }
+{
+    Channel {
+        from: 0,
+        to: 0,
+        production: [0; PHASES],
+        consumption: [0; PHASES],
+    }
+}
+
+pub(crate) fn no_mode() -> Mode
+    ensures { λ r. ⌜ r ≡ emptyMode ⌝ }
+{
+    Mode {
+        active: 0,
+        count: 0,
+        actors: [no_actor(); ACTORS],
+        channels: [no_channel(); CHANNELS],
+    }
+}
+
+fn actor_of(words: &[u64]) -> Actor
+    requires { ⌜ length (now words) ≡ ACTOR-WORDS ⌝ }
+    ensures { λ r. ⌜ r ≡ actorOf (now (words .entry)) ⌝ }
+{
+    Actor {
+        phases: words[0] as usize,
+        wcet: Tick(words[1]),
+        processor: words[2] as usize,
+    }
+}
+
+fn actors_of(words: &[u64]) -> [Actor; ACTORS]
+    requires { ⌜ length (now words) ≡ ACTOR-WORDS * ACTORS ⌝ }
+    ensures { λ r. ⌜ r ≡ actorsOf (now (words .entry)) ⌝ }
+{
+    let mut actors = [no_actor(); ACTORS];
+    for i in 0..ACTORS {
+        let a = ACTOR_WORDS * i;
+        let e = a + ACTOR_WORDS;
+        actors[i] = actor_of(&words[a..e]);
+    }
+    actors
+}
+
+fn rates_of(words: &[u64]) -> [u8; PHASES]
+    requires { ⌜ length (now words) ≡ PHASES ⌝ }
+    ensures { λ r. ⌜ r ≡ ratesOf (now (words .entry)) ⌝ }
+{
+    let mut rates = [0u8; PHASES];
+    for k in 0..PHASES {
+        rates[k] = (words[k] % 256) as u8;
+    }
+    rates
+}
+
+fn channel_of(words: &[u64]) -> Channel
+    requires { ⌜ length (now words) ≡ CHANNEL-WORDS ⌝ }
+    ensures { λ r. ⌜ r ≡ channelOf (now (words .entry)) ⌝ }
+{
+    let production = rates_of(&words[2..10]);
+    let consumption = rates_of(&words[10..18]);
+    Channel {
+        from: words[0] as usize,
+        to: words[1] as usize,
+        production,
+        consumption,
+    }
+}
+
+fn channels_of(words: &[u64]) -> [Channel; CHANNELS]
+    requires { ⌜ length (now words) ≡ CHANNEL-WORDS * CHANNELS ⌝ }
+    ensures { λ r. ⌜ r ≡ channelsOf (now (words .entry)) ⌝ }
+{
+    let mut channels = [no_channel(); CHANNELS];
+    for k in 0..CHANNELS {
+        let a = CHANNEL_WORDS * k;
+        let e = a + CHANNEL_WORDS;
+        channels[k] = channel_of(&words[a..e]);
+    }
+    channels
+}
+
+pub(crate) fn mode_of(words: &[u64]) -> Mode
+    requires { ⌜ length (now words) ≡ MODE-WORDS ⌝ }
+    ensures { λ r. ⌜ r ≡ modeOf (now (words .entry)) ⌝ }
+{
+    let actors = actors_of(&words[ACTORS_AT..CHANNELS_AT]);
+    let channels = channels_of(&words[CHANNELS_AT..MODE_WORDS]);
+    Mode {
+        active: (words[0] % 65536) as u16,
+        count: words[1] as usize,
+        actors,
+        channels,
+    }
+}

@@ -1,0 +1,159 @@
+// The words are written: each function is lent the part that it fills.
+use change::Timing;
+use graph::shape::Actor;
+use graph::shape::Channel;
+use graph::shape::Mode;
+use graph::shape::Table;
+use terms::limits::ACTORS;
+use terms::limits::CHANNELS;
+use terms::limits::MODES;
+use terms::limits::PHASES;
+use units::Firing;
+use units::Tick;
+use units::Token;
+use whole::Part;
+use whole::Whole;
+ghost use mathlib.Core.Path.{_≡_};
+ghost use Prim.Native.Nat.{_*_};
+ghost use lib.ListN.{length};
+ghost use Rattle.terms.specs.Limits.{MODES, ACTORS, CHANNELS, PHASES};
+ghost use Rattle.layout.specs.Joined.{joined};
+ghost use Rattle.layout.specs.Words.{CHANGES, HEAD-WORDS, ACTOR-WORDS, CHANNEL-WORDS, MODE-WORDS, CHANGE-WORDS, headWords, actorWords, rateWords, channelWords, actorWordsAt, channelWordsAt, modeWords, changeWords, modesWords, changesWords};
+
+pub(crate) const ACTOR_WORDS: usize = 6;
+
+pub(crate) const CHANNEL_WORDS: usize = 20;
+
+pub(crate) const MODE_WORDS: usize = 741;
+
+const CHANGE_WORDS: usize = 3;
+
+const CHANGES: usize = 64;
+
+// The words of a mode at which its actors and its channels begin.
+pub(crate) const ACTORS_AT: usize = 5;
+
+pub(crate) const CHANNELS_AT: usize = 101;
+
+fn put_head(mode: Mode, part: Part, words: &mut [u64])
+    requires { ⌜ length (now words) ≡ HEAD-WORDS ⌝ }
+    ensures { λ _. ⌜ now (words .exit) ≡ headWords mode part ⌝ }
+{
+    let iteration = part.iteration;
+    words[0] = mode.active as u64;
+    words[1] = mode.count as u64;
+    words[2] = iteration.ticks();
+    words[3] = part.source as u64;
+    words[4] = part.sink as u64;
+}
+
+fn put_actor(actor: Actor, firings: Firing, period: Tick, start: Tick, words: &mut [u64])
+    requires { ⌜ length (now words) ≡ ACTOR-WORDS ⌝ }
+    ensures { λ _. ⌜ now (words .exit) ≡ actorWords actor firings period start ⌝ }
+{
+    let wcet = actor.wcet;
+    words[0] = actor.phases as u64;
+    words[1] = wcet.ticks();
+    words[2] = actor.processor as u64;
+    words[3] = firings.firings();
+    words[4] = period.ticks();
+    words[5] = start.ticks();
+}
+
+fn put_actors(mode: Mode, part: Part, words: &mut [u64])
+    requires { ⌜ length (now words) ≡ ACTOR-WORDS * ACTORS ⌝ }
+    ensures { λ _. ⌜ now (words .exit) ≡ joined ACTORS (actorWordsAt mode part) ⌝ }
+{
+    for i in 0..ACTORS {
+        let a = ACTOR_WORDS * i;
+        let e = a + ACTOR_WORDS;
+        let actor = mode.actors[i];
+        let firings = part.firings[i];
+        let period = part.periods[i];
+        let start = part.starts[i];
+        put_actor(actor, firings, period, start, &mut words[a..e]);
+    }
+}
+
+fn put_rates(rates: [u8; PHASES], words: &mut [u64])
+    requires { ⌜ length (now words) ≡ PHASES ⌝ }
+    ensures { λ _. ⌜ now (words .exit) ≡ rateWords rates ⌝ }
+{
+    for k in 0..PHASES {
+        words[k] = rates[k] as u64;
+    }
+}
+
+fn put_channel(channel: Channel, size: Token, tokens: Token, words: &mut [u64])
+    requires { ⌜ length (now words) ≡ CHANNEL-WORDS ⌝ }
+    ensures { λ _. ⌜ now (words .exit) ≡ channelWords channel size tokens ⌝ }
+{
+    let production = channel.production;
+    let consumption = channel.consumption;
+    put_rates(production, &mut words[2..10]);
+    put_rates(consumption, &mut words[10..18]);
+    words[0] = channel.from as u64;
+    words[1] = channel.to as u64;
+    words[18] = size.tokens();
+    words[19] = tokens.tokens();
+}
+
+fn put_channels(mode: Mode, part: Part, words: &mut [u64])
+    requires { ⌜ length (now words) ≡ CHANNEL-WORDS * CHANNELS ⌝ }
+    ensures { λ _. ⌜ now (words .exit) ≡ joined CHANNELS (channelWordsAt mode part) ⌝ }
+{
+    for k in 0..CHANNELS {
+        let a = CHANNEL_WORDS * k;
+        let e = a + CHANNEL_WORDS;
+        let channel = mode.channels[k];
+        let size = part.sizes[k];
+        let tokens = part.tokens[k];
+        put_channel(channel, size, tokens, &mut words[a..e]);
+    }
+}
+
+pub(crate) fn put_mode(mode: Mode, part: Part, words: &mut [u64])
+    requires { ⌜ length (now words) ≡ MODE-WORDS ⌝ }
+    ensures { λ _. ⌜ now (words .exit) ≡ modeWords mode part ⌝ }
+{
+    put_head(mode, part, &mut words[0..ACTORS_AT]);
+    put_actors(mode, part, &mut words[ACTORS_AT..CHANNELS_AT]);
+    put_channels(mode, part, &mut words[CHANNELS_AT..MODE_WORDS]);
+}
+
+pub(crate) fn put_modes(table: Table, whole: Whole, words: &mut [u64])
+    requires { ⌜ length (now words) ≡ MODE-WORDS * MODES ⌝ }
+    ensures { λ _. ⌜ now (words .exit) ≡ modesWords table whole ⌝ }
+{
+    for m in 0..MODES {
+        let a = MODE_WORDS * m;
+        let e = a + MODE_WORDS;
+        let mode = table.modes[m];
+        let part = whole.parts[m];
+        put_mode(mode, part, &mut words[a..e]);
+    }
+}
+
+fn put_change(timing: Timing, words: &mut [u64])
+    requires { ⌜ length (now words) ≡ CHANGE-WORDS ⌝ }
+    ensures { λ _. ⌜ now (words .exit) ≡ changeWords timing ⌝ }
+{
+    let overlap = timing.overlap;
+    let offset = timing.offset;
+    let worst = timing.worst;
+    words[0] = overlap.ticks();
+    words[1] = offset.ticks();
+    words[2] = worst.ticks();
+}
+
+pub(crate) fn put_changes(whole: Whole, words: &mut [u64])
+    requires { ⌜ length (now words) ≡ CHANGE-WORDS * CHANGES ⌝ }
+    ensures { λ _. ⌜ now (words .exit) ≡ changesWords whole ⌝ }
+{
+    for k in 0..CHANGES {
+        let a = CHANGE_WORDS * k;
+        let e = a + CHANGE_WORDS;
+        let timing = whole.changes[k];
+        put_change(timing, &mut words[a..e]);
+    }
+}

@@ -1,0 +1,2 @@
+-- The plan of a table as the run sees it.
+pub mod Plan

@@ -1,0 +1,112 @@
+-- Laws of bytes laid over a buffer. Assumes nothing.
+use mathlib.Core.Path.{_≡_, refl, sym, ap, subst, _∙_}
+use mathlib.Core.Bool.{Bool, true, false}
+use mathlib.Core.List.{List, [], _∷_, _++_, append-nil}
+use Prim.Native.Nat.{ℕ, zero, suc, _+_, _-_, _≤_, _<_}
+use native.Mathlib.Numerals.{add-one}
+use native.Mathlib.Omega.{arith}
+use lib.Dec.{leb}
+use lib.ListN.{length, getD, set, take, replicate, length-append, length-replicate, drop-of-length-le, replicate-append-replicate}
+use lib.Seq.{sets, length-sets, sets-eq, take-suc}
+use borrow.Author.Tests.{leb-true, leb-false}
+use Rattle.printer.specs.Laid.{Room, Laid, texts}
+use Rattle.printer.specs.Printed.{PRINTED, Shows}
+
+sets-append : (l : List ℕ) (i : ℕ) (s t : List ℕ) → sets l i (s ++ t) ≡ sets (sets l i s) (i + length s) t
+sets-append l i [] t = let e : i + 0 ≡ i = omega arith in rw e
+sets-append l i (a ∷ s) t =
+    let e : i + suc (length s) ≡ suc i + length s = omega arith in
+    rw e (sets-append (set l i a) (suc i) s t)
+
+pub laid-none : (l : List ℕ) (at : ℕ) → Laid l at [] l at
+laid-none l at = record { ends = omega arith; is = refl }
+
+-- one byte
+pub laid-byte : (l : List ℕ) (at b : ℕ) → Laid l at (b ∷ []) (set l at b) (at + 1)
+laid-byte l at b = record { ends = refl; is = refl }
+
+pub laid-length : {l k s : List ℕ} {at end : ℕ} → Laid l at s k end → length k ≡ length l
+laid-length {l} {k} {s} {at} a = ap length (a .is) ∙ length-sets l at s
+
+-- a text behind another
+pub laid-then : {l k j s t : List ℕ} {at mid end : ℕ} → Laid l at s k mid → Laid k mid t j end → Laid l at (s ++ t) j end
+laid-then {l} {k} {j} {s} {t} {at} a b = record {
+  ends = omega (arith, a .ends, b .ends, length-append s t);
+  is = b .is ∙ rw (a .is, a .ends) (sym (sets-append l at s t));
+}
+
+pub room-first : {l s : List ℕ} {at : ℕ} (t : List ℕ) → Room l at (s ++ t) → Room l at s
+room-first {l} {s} t r = record { fits = omega (arith, r .fits, length-append s t) }
+
+-- the room that is left for it
+pub room-then : {l k s t : List ℕ} {at mid : ℕ} → Room l at (s ++ t) → Laid l at s k mid → Room k mid t
+room-then {l} {k} {s} {t} r a = record { fits = omega (arith, r .fits, a .ends, laid-length a, length-append s t) }
+
+-- a text as long as the buffer is all that there is
+pub laid-all : {l k s : List ℕ} {end : ℕ} → Laid l 0 s k end → length s ≡ length l → k ≡ s
+laid-all {l} {k} {s} a e =
+    let h : 0 + length s ≤ length l = omega arith in
+    let g : length l ≤ 0 + length s = omega arith in
+    a .is ∙ sets-eq s l 0 h ∙ ap (λ (r : List ℕ). s ++ r) (drop-of-length-le l g) ∙ append-nil s
+
+-- one byte more of a text that is copied
+pub laid-copied : {l k : List ℕ} {at : ℕ} (s : List ℕ) (i : ℕ) → i < length s → Laid l at (take i s) k (at + i)
+    → Laid l at (take (i + 1) s) (set k (at + i) (getD s i 0)) (at + (i + 1))
+laid-copied {l} {k} {at} s i h a =
+    let e : at + i + 1 ≡ at + (i + 1) = omega arith in
+    rw (add-one, take-suc s i 0 h) (subst (λ (n : ℕ). Laid l at (take i s ++ (getD s i 0 ∷ [])) (set k (at + i) (getD s i 0)) n) (e ∙ ap (λ (n : ℕ). at + n) (add-one i)) (laid-then a (laid-byte k (at + i) (getD s i 0))))
+
+-- one 0 more
+pub laid-blank : {l k : List ℕ} {from i : ℕ} → from ≤ i → Laid l from (replicate (i - from) 0) k i → Laid l from (replicate (i + 1 - from) 0) (set k i 0) (i + 1)
+laid-blank {l} {k} {from} {i} h a =
+    let e : i + 1 - from ≡ i - from + 1 = omega arith in
+    rw (e, ← replicate-append-replicate {A = ℕ} (i - from) 1 0) (laid-then a (laid-byte k i 0))
+
+module _ (f : ℕ → List ℕ) where
+  pub texts-none : texts f 0 ≡ []
+  unfolding texts
+  texts-none = refl
+
+  pub texts-next : (n : ℕ) → texts f (n + 1) ≡ texts f n ++ f n
+  unfolding texts
+  texts-next n = rw add-one
+
+  texts-within : (i n : ℕ) → i < n → length (texts f (suc i)) ≤ length (texts f n)
+  unfolding texts
+  texts-within i zero h = absurd (omega arith)
+  texts-within i (suc n) h = go (leb n i) refl (texts-within i n)
+    where
+      go : (b : Bool) → leb n i ≡ b → (i < n → length (texts f (suc i)) ≤ length (texts f n)) → length (texts f (suc i)) ≤ length (texts f n ++ f n)
+      go true e ih = let q : i ≡ n = omega (arith, leb-true n i e) in rw q (omega arith)
+      go false e ih = omega (arith, ih (omega (arith, leb-false n i e)), length-append (texts f n) (f n))
+
+  -- the first of some texts, the next, and the room for it
+  pub laid-first : (l : List ℕ) (at : ℕ) → Laid l at (texts f 0) l at
+  laid-first l at = rw texts-none (laid-none l at)
+
+  pub laid-next : {l k j : List ℕ} {at mid end : ℕ} (i : ℕ) → Laid l at (texts f i) k mid → Laid k mid (f i) j end → Laid l at (texts f (i + 1)) j end
+  laid-next i a b = rw texts-next (laid-then a b)
+
+  pub room-next : {l k : List ℕ} {at mid : ℕ} (i n : ℕ) → i < n → Room l at (texts f n) → Laid l at (texts f i) k mid → Room k mid (f i)
+  unfolding texts
+  room-next {l} {k} {at} i n h r a =
+      let g : Room l at (texts f i ++ f i) = record { fits = omega (arith, r .fits, texts-within i n h) } in
+      room-then g a
+
+  -- all of them
+  pub laid-last : {l k : List ℕ} {at end : ℕ} (i n : ℕ) → i ≤ n → n ≤ i → Laid l at (texts f i) k end → Laid l at (texts f n) k end
+  laid-last i n h g a = let e : n ≡ i = omega arith in rw e a
+
+-- a text, and nothing but 0 behind it
+pub shown : {l k j s : List ℕ} {end : ℕ} → length l ≡ PRINTED → Room l 0 s → Laid l 0 s k end → Laid k end (replicate (length k - end) 0) j (length k) → Shows s j end
+shown {l} {k} {j} {s} {end} e r a b =
+    let n = laid-length a in
+    let z = length-append s (replicate (length k - end) 0) in
+    let y = length-replicate {A = ℕ} (length k - end) 0 in
+    record {
+      long = omega (arith, a .ends);
+      is = laid-all (laid-then a b) (omega (arith, a .ends, r .fits)) ∙ ap (λ (m : ℕ). s ++ replicate (m - end) 0) (n ∙ e);
+    }
+
+pub room-end : {l k s : List ℕ} {at end : ℕ} → Room l at s → Laid l at s k end → end ≤ length k
+room-end r a = omega (arith, r .fits, a .ends, laid-length a)

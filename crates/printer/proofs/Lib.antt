@@ -1,0 +1,6 @@
+-- What belongs to no one function.
+mod Laying
+mod Digits
+mod Fitting
+mod Settled
+mod Worked

@@ -1,0 +1,71 @@
+// The text that is printed of a plan, and of a refusal.
+mod bytes;
+mod lines;
+
+use crate::bytes::Five;
+use graph::shape::Table;
+use terms::limits::ACTORS;
+use terms::limits::CHANNELS;
+use terms::limits::MODES;
+use terms::refusal::Refusal;
+use whole::Whole;
+ghost use mathlib.Core.Path.{_≡_};
+ghost use lib.ListN.{length};
+ghost use Rattle.printer.specs.Laid.{Room, Laid};
+ghost use Rattle.printer.specs.Printed.{PRINTED as PRINTED-LIMIT, Small, Shows, planText, refusalText, modesText};
+
+// The most bytes of a line: its word, five commas, its numbers, and CRLF.
+const ACTOR_LINE: usize = 5 + 5 + (1 + 2 + 8 + 8 + 10) + 2;
+
+const CHANNEL_LINE: usize = 7 + 5 + (1 + 2 + 2 + 15 + 10) + 2;
+
+const CHANGE_LINE: usize = 6 + 5 + (1 + 1 + 10 + 10 + 10) + 2;
+
+// The length of the buffer: no plan has more bytes.
+pub const PRINTED: usize = MODES * (ACTORS * ACTOR_LINE + CHANNELS * CHANNEL_LINE)
+    + MODES * ((MODES - 1) * CHANGE_LINE);
+
+// The modes, from the front of the buffer on.
+fn modes(out: &mut [u8], table: Table, whole: Whole) -> usize
+    requires { ⌜ Room (now out) 0 (modesText table whole) × Small table whole ⌝ }
+    ensures { λ r. ⌜ Laid (now (out .entry)) 0 (modesText table whole) (now (out .exit)) r ⌝ }
+{
+    let mut at: usize = 0;
+    for m in 0..MODES {
+        let mode = table.modes[m];
+        let part = whole.parts[m];
+        at = lines::mode(out, at, m, mode, part);
+    }
+    at
+}
+
+// Prints a plan, and returns the length of its text.
+pub fn print(table: Table, whole: Whole, out: &mut [u8]) -> usize
+    requires { ⌜ (length (now out) ≡ PRINTED-LIMIT) × Small table whole ⌝ }
+    ensures { λ r. ⌜ Shows (planText table whole) (now (out .exit)) r ⌝ }
+{
+    let active = lines::active_of(table);
+    let changes = whole.changes;
+    let at = modes(out, table, whole);
+    let end = lines::changes(out, at, active, changes);
+    bytes::blank(out, end);
+    end
+}
+
+// Prints a refusal, and returns the length of its line.
+pub fn print_refusal(refusal: Refusal, out: &mut [u8]) -> usize
+    requires { ⌜ length (now out) ≡ PRINTED-LIMIT ⌝ }
+    ensures { λ r. ⌜ Shows (refusalText refusal) (now (out .exit)) r ⌝ }
+{
+    let printed = refusal.printed();
+    let numbers = Five(
+        printed.number,
+        printed.row,
+        printed.mode,
+        printed.actor,
+        printed.processor,
+    );
+    let end = bytes::line(out, 0, b"refused", numbers);
+    bytes::blank(out, end);
+    end
+}

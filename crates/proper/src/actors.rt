@@ -1,0 +1,60 @@
+// The actors of a mode.
+use graph::shape::Actor;
+use graph::shape::Mode;
+use numbers::bits::has;
+use terms::limits::ACTORS;
+use terms::limits::MOST_WCET;
+use terms::limits::PHASES;
+use terms::limits::PROCESSORS;
+use units::Tick;
+ghost use mathlib.Core.Path.{_≡_};
+ghost use Prim.Native.Nat.{_≤_};
+ghost use Rattle.numbers.specs.All.{Below};
+ghost use Rattle.numbers.specs.Decides.{Decides};
+ghost use Rattle.terms.specs.Limits.{ACTORS};
+ghost use Rattle.graph.specs.Proper.{ProperActor};
+ghost use Rattle.graph.specs.Shape.{noActor};
+ghost use Rattle.proper.specs.Parts.{ActorStands};
+
+// Whether a number counts from 1 to at most so many.
+fn numbered(n: usize, most: usize) -> bool
+    ensures { λ r. ⌜ Decides ((1 ≤ n) × (n ≤ most)) r ⌝ }
+{
+    (1 <= n) & (n <= most)
+}
+
+fn proper_actor(actor: Actor) -> bool
+    ensures { λ r. ⌜ Decides (ProperActor actor) r ⌝ }
+{
+    let wcet = actor.wcet;
+    numbered(actor.phases, PHASES)
+        & numbered(actor.processor, PROCESSORS)
+        & Tick(1).by(wcet)
+        & wcet.by(Tick(MOST_WCET))
+}
+
+fn nobody(actor: Actor) -> bool
+    ensures { λ r. ⌜ Decides (actor ≡ noActor) r ⌝ }
+{
+    let wcet = actor.wcet;
+    (actor.phases == 0) & (actor.processor == 0) & wcet.by(Tick(0))
+}
+
+// Whether the active actors are proper, and nobody stands elsewhere.
+pub(crate) fn proper_actors(mode: Mode) -> bool
+    ensures { λ r. ⌜ Decides (Below (ActorStands mode) ACTORS) r ⌝ }
+{
+    for i in 0..ACTORS {
+        let actor = mode.actors[i];
+        if has(mode.active, i) {
+            if !proper_actor(actor) {
+                return false;
+            }
+        } else {
+            if !nobody(actor) {
+                return false;
+            }
+        }
+    }
+    true
+}

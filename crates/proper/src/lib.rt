@@ -1,0 +1,44 @@
+// Whether a table in memory is one that the rows of a table can give.
+mod actors;
+mod channels;
+mod homes;
+
+use graph::shape::Mode;
+use graph::shape::Table;
+use terms::limits::ACTORS;
+use terms::limits::CHANNELS;
+use terms::limits::MODES;
+ghost use Rattle.numbers.specs.Decides.{Decides};
+ghost use Rattle.graph.specs.Proper.{ProperMode, ProperTable};
+
+fn proper_mode(mode: Mode) -> bool
+    ensures { λ r. ⌜ Decides (ProperMode mode) r ⌝ }
+{
+    if CHANNELS < mode.count {
+        return false;
+    }
+    if !actors::proper_actors(mode) {
+        return false;
+    }
+    channels::listed(mode) & channels::unlisted(mode)
+}
+
+// Whether the table is proper: it goes through the modes, and keeps the processor of each actor that it has come to.
+pub fn proper(table: Table) -> bool
+    ensures { λ r. ⌜ Decides (ProperTable table) r ⌝ }
+{
+    let mut homes = [0usize; ACTORS];
+    for m in 0..MODES {
+        let mode = table.modes[m];
+        if !proper_mode(mode) {
+            return false;
+        }
+        let actors = mode.actors;
+        if !homes::at_home(homes, actors) {
+            return false;
+        }
+        let next = homes::housed(homes, actors);
+        homes = next;
+    }
+    homes::inhabited(homes)
+}

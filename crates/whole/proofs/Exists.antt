@@ -1,0 +1,115 @@
+-- Every proper table has an outcome: the refusal of a mode, or a plan. Assumes nothing.
+use mathlib.Core.Path.{_≡_, refl, subst}
+use mathlib.Core.List.{List}
+use mathlib.Core.Logic.{_⊎_, inl, inr}
+use Prim.Native.Nat.{ℕ, zero, suc, _*_, _/_, _%_, _≤_}
+use native.Mathlib.Nat.{le-refl}
+use native.Mathlib.Numerals.{add-one}
+use native.Mathlib.Omega.{arith}
+use native.Mathlib.Decide.{ℕ-discrete}
+use lib.ListN.{set}
+use Rattle.terms.specs.Limits.{MODES, LOAD-LIMIT}
+use Rattle.terms.specs.declared.refusal.Refusal.{Refusal}
+use Rattle.units.specs.Ticks.{laterOf}
+use Rattle.graph.specs.declared.shape.Mode.{Mode}
+use Rattle.graph.specs.declared.shape.Table.{Table}
+use Rattle.graph.specs.declared.Verdict.{Verdict}
+use Rattle.graph.specs.declared.Verdict.the-variants.{Cyclic, Ends, Unbalanced, Overloaded, Sound}
+use Rattle.graph.specs.Shape.{modeAt}
+use Rattle.graph.specs.Proper.{ProperMode, ProperTable}
+use Rattle.graph.specs.Judge.{judgeOf}
+use Rattle.graph.proofs.Judging.{judge-judged}
+use Rattle.schedule.specs.declared.Timing.{Timing as Answer}
+use Rattle.schedule.specs.declared.Timing.the-variants.{Late, OnTime}
+use Rattle.schedule.specs.Model.{scheduleOf}
+use Rattle.schedule.proofs.Modelled.{schedule-scheduled}
+use Rattle.change.specs.declared.Running.{Running}
+use Rattle.change.specs.declared.Timing.{Timing}
+use Rattle.change.specs.Change.{worstOf, Ready}
+use Rattle.change.specs.Waits.{overlapOf, offsetFrom}
+use Rattle.change.proofs.Offsets.{found}
+use Rattle.whole.specs.declared.Part.{Part}
+use Rattle.whole.specs.declared.Outcome.{Outcome}
+use Rattle.whole.specs.declared.Whole.{Whole}
+use Rattle.whole.specs.Whole.{noPart, noTiming, emptyPart, Listed, ModeRefused, by-6, by-7, by-8, by-9, by-10, partOf, ModePlanned, IsPart, Planning, refused, planned}
+use Rattle.whole.specs.Steps.{Made, runningAt, runningsOf, AllReady, Between, ChangeOf}
+use Rattle.whole.proofs.Told.{judged-refused, scheduled-late}
+use Rattle.whole.proofs.Making.{made-none, made-set}
+use Rattle.whole.proofs.Unique.{listed-or-not}
+use Rattle.whole.proofs.Running.{all-ready}
+use Rattle.whole.proofs.Coming.{plan-comes}
+
+-- a mode has a part, or a refusal
+pub mode-decided : (m : Mode) (n : ℕ) → ProperMode m → ((p : Part) × ModePlanned m p) ⊎ ((r : Refusal) × ModeRefused m n r)
+mode-decided m n proper = go (judgeOf m .verdict) refl
+  where
+    timed : (e : judgeOf m .verdict ≡ Sound) (a : Answer) → scheduleOf m (judgeOf m) .timing ≡ a → ((p : Part) × ModePlanned m p) ⊎ ((r : Refusal) × ModeRefused m n r)
+    timed e (Late a) f = inr (_, by-10 (judge-judged m proper) e (scheduled-late (schedule-scheduled m (judgeOf m) proper (judge-judged m proper) e) f))
+    timed e OnTime f =
+        inl (
+          partOf (judgeOf m) (scheduleOf m (judgeOf m)),
+          record {
+            judgement = judgeOf m;
+            timetable = scheduleOf m (judgeOf m);
+            judged = judge-judged m proper;
+            sound = e;
+            scheduled = schedule-scheduled m (judgeOf m) proper (judge-judged m proper) e;
+            on-time = f;
+            part = refl;
+          },
+        )
+
+    go : (v : Verdict) → judgeOf m .verdict ≡ v → ((p : Part) × ModePlanned m p) ⊎ ((r : Refusal) × ModeRefused m n r)
+    go Cyclic e = inr (_, by-6 (judged-refused Cyclic tt (judge-judged m proper) e))
+    go Ends e = inr (_, by-7 (judged-refused Ends tt (judge-judged m proper) e))
+    go Unbalanced e = inr (_, by-8 (judged-refused Unbalanced tt (judge-judged m proper) e))
+    go (Overloaded p) e = inr (_, by-9 (judged-refused (Overloaded p) tt (judge-judged m proper) e))
+    go Sound e = timed e (scheduleOf m (judgeOf m) .timing) refl
+
+-- two modes have a change, or none
+change-found : (old new : Running) (k l : ℕ) → ((old .active ≡ 0 → ⊥) → Ready old) → ((new .active ≡ 0 → ⊥) → Ready new) → (c : Timing) × Between old new k l c
+change-found old new k l ready-old ready-new = go (ℕ-discrete (old .active) 0) (ℕ-discrete (new .active) 0) (ℕ-discrete k l)
+  where
+    go : Dec (old .active ≡ 0) → Dec (new .active ≡ 0) → Dec (k ≡ l) → (c : Timing) × Between old new k l c
+    go (yes a) b c = (noTiming, ((λ x y z. absurd (x a)), (λ n. refl)))
+    go (no a) (yes b) c = (noTiming, ((λ x y z. absurd (y b)), (λ n. refl)))
+    go (no a) (no b) (yes c) = (noTiming, ((λ x y z. absurd (z c)), (λ n. refl)))
+    go (no a) (no b) (no c) =
+        let (overlap, offset) = found old new (ready-old a) (ready-new b) refl refl refl in
+        let d = laterOf (overlapOf old new) (offsetFrom LOAD-LIMIT old new) in (
+          record { overlap = overlapOf old new; offset = d; worst = worstOf old new d },
+          ((λ x y z. record { overlap = overlap; offset = offset; worst = refl }), (λ n. absurd (n (a, b, c)))),
+        )
+
+changes-found : (rs : List Running) → AllReady rs → (n : ℕ) → n ≤ MODES * MODES → (cs : List Timing) × Made (MODES * MODES) (ChangeOf rs) noTiming cs n
+changes-found rs ready zero h = (_, made-none (MODES * MODES) (ChangeOf rs) noTiming noTiming)
+changes-found rs ready (suc n) h =
+    let (cs, made) = changes-found rs ready n (omega arith) in
+    let (c, is) = change-found (runningAt rs (n / MODES)) (runningAt rs (n % MODES)) (n / MODES) (n % MODES) (ready .ready (n / MODES) (omega arith)) (ready .ready (n % MODES) (omega arith)) in
+    (set cs n c, subst (Made (MODES * MODES) (ChangeOf rs) noTiming (set cs n c)) (add-one n) (made-set (MODES * MODES) (ChangeOf rs) noTiming cs n c h is made))
+
+module _ (t : Table) (proper : ProperTable t) where
+  -- the modes below k have their parts, or the lowest that is refused refuses the table
+  parts-found : (k : ℕ) → k ≤ MODES → ((ps : List Part) × Made MODES (IsPart t) noPart ps k) ⊎ ((x : Outcome) × Planning t x)
+  parts-found zero h = inl (_, made-none MODES (IsPart t) noPart emptyPart)
+  parts-found (suc k) h = go (parts-found k (omega arith)) (listed-or-not t k h) (mode-decided (modeAt t k) (suc k) (proper .mode k h))
+    where
+      more : (ps : List Part) (p : Part) → Made MODES (IsPart t) noPart ps k → IsPart t k p → Made MODES (IsPart t) noPart (set ps k p) (suc k)
+      more ps p made is = subst (Made MODES (IsPart t) noPart (set ps k p)) (add-one k) (made-set MODES (IsPart t) noPart ps k p h is made)
+
+      go : ((ps : List Part) × Made MODES (IsPart t) noPart ps k) ⊎ ((x : Outcome) × Planning t x) → Dec (Listed t k)
+          → ((p : Part) × ModePlanned (modeAt t k) p) ⊎ ((r : Refusal) × ModeRefused (modeAt t k) (suc k) r)
+          → ((ps : List Part) × Made MODES (IsPart t) noPart ps (suc k)) ⊎ ((x : Outcome) × Planning t x)
+      go (inr x) l d = inr x
+      go (inl (ps, made)) (no n) d = inl (set ps k emptyPart, more ps emptyPart made (record { listed = λ l. absurd (n l); unlisted = λ l. refl }))
+      go (inl (ps, made)) (yes l) (inl (p, is)) = inl (set ps k p, more ps p made (record { listed = λ l. is; unlisted = λ n. absurd (n l) }))
+      go (inl (ps, made)) (yes l) (inr (r, is)) = inr (_, refused l (λ i b listed. (_, made .each i b .listed listed)) is)
+
+  pub planning-exists : (x : Outcome) × Planning t x
+  planning-exists = go (parts-found MODES (le-refl MODES))
+    where
+      go : ((ps : List Part) × Made MODES (IsPart t) noPart ps MODES) ⊎ ((x : Outcome) × Planning t x) → (x : Outcome) × Planning t x
+      go (inr x) = x
+      go (inl (ps, made)) =
+          let (cs, changes) = changes-found (runningsOf t ps) (all-ready t proper ps made) (MODES * MODES) (le-refl (MODES * MODES)) in
+          (_, planned (plan-comes t proper ps cs made changes))

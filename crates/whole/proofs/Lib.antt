@@ -1,0 +1,9 @@
+-- What the proofs lean on.
+pub mod Told
+mod Making
+pub mod Unique
+pub mod Bounds
+pub mod Running
+mod Coming
+pub mod Exists
+mod Settled

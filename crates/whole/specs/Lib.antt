@@ -1,0 +1,3 @@
+-- The plan of a table.
+pub mod Whole
+pub mod Steps

@@ -1,0 +1,75 @@
+-- Model of the code: lists whose elements are found one by one, the parts of a table, and the modes as they run.
+use mathlib.Core.Path.{_≡_}
+use mathlib.Core.List.{List, []}
+use Prim.Native.Nat.{ℕ, suc, _/_, _%_, _<_}
+use lib.ListN.{length, getD}
+use Rattle.numbers.specs.Tab.{tab}
+use Rattle.units.specs.Ticks.{tick}
+use Rattle.terms.specs.Limits.{MODES}
+use Rattle.graph.specs.declared.shape.Mode.{Mode}
+use Rattle.graph.specs.declared.shape.Table.{Table}
+use Rattle.graph.specs.Shape.{modeAt}
+use Rattle.change.specs.declared.Running.{Running}
+use Rattle.change.specs.declared.Timing.{Timing}
+use Rattle.change.specs.Change.{Ready, Changes}
+use Rattle.whole.specs.declared.Part.{Part}
+use Rattle.whole.specs.declared.Answer.{Answer}
+use Rattle.whole.specs.declared.Answer.the-variants.{Planned as IsPlanned, Refused as IsRefused}
+use Rattle.whole.specs.Whole.{noPart, noTiming, emptyPart, Listed, ModeRefused, ModePlanned, IsPart, runningOf}
+
+-- a list of n elements, of which the first i are what P asks of them
+pub record Made {A : Type 0} (n : ℕ) (P : ℕ → A → Type 0) (z : A) (l : List A) (i : ℕ) : Type 0 where
+  pub long : length l ≡ n
+  pub each : (k : ℕ) → k < i → P k (getD l k z)
+
+-- what comes of the listed mode with number n: its part, or its refusal
+abbrev pub Comes : Mode → ℕ → Answer → Part → Type 0
+Comes m n IsPlanned p = ModePlanned m p
+Comes m n (IsRefused r) p = ModeRefused m n r
+
+-- and of any mode
+abbrev pub AnyComes : Mode → ℕ → Answer → Part → Type 0
+AnyComes m n IsPlanned p = ((m .active ≡ 0 → ⊥) → ModePlanned m p) × (m .active ≡ 0 → p ≡ emptyPart)
+AnyComes m n (IsRefused r) p = (m .active ≡ 0 → ⊥) × ModeRefused m n r
+
+-- what comes of all modes: their parts, or the refusal of the lowest that is refused
+abbrev pub AllCome : Table → Answer → List Part → Type 0
+AllCome t IsPlanned ps = Made MODES (IsPart t) noPart ps MODES
+AllCome t (IsRefused r) ps =
+    (k : ℕ) × Listed t k × ((l : ℕ) → l < k → Listed t l → (p : Part) × ModePlanned (modeAt t l) p) × ModeRefused (modeAt t k) (suc k) r
+
+-- the modes as they run
+abbrev pub noRunning : Running
+noRunning =
+    record {
+      active = 0;
+      actors = [];
+      iteration = tick 0;
+      firings = [];
+      periods = [];
+      starts = [];
+      startup = tick 0;
+      since = [];
+      until = [];
+    }
+
+abbrev pub runningAt : List Running → ℕ → Running
+runningAt rs k = getD rs k noRunning
+
+abbrev pub runningsOf : Table → List Part → List Running
+runningsOf t ps = tab MODES (λ k. runningOf (modeAt t k) (getD ps k noPart))
+
+-- those that have an actor are ready
+pub record AllReady (rs : List Running) : Type 0 where
+  pub long : length rs ≡ MODES
+  pub ready : (k : ℕ) → k < MODES → (runningAt rs k .active ≡ 0 → ⊥) → Ready (runningAt rs k)
+
+-- the change from one running mode at place k to another at place l, where both have an actor; or none
+abbrev pub Between : Running → Running → ℕ → ℕ → Timing → Type 0
+Between old new k l c =
+    ((old .active ≡ 0 → ⊥) → (new .active ≡ 0 → ⊥) → (k ≡ l → ⊥) → Changes old new c)
+    × (((old .active ≡ 0 → ⊥) × (new .active ≡ 0 → ⊥) × (k ≡ l → ⊥) → ⊥) → c ≡ noTiming)
+
+-- at place n of all pairs
+abbrev pub ChangeOf : List Running → ℕ → Timing → Type 0
+ChangeOf rs n c = Between (runningAt rs (n / MODES)) (runningAt rs (n % MODES)) (n / MODES) (n % MODES) c

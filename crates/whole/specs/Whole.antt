@@ -1,0 +1,145 @@
+-- The plan of a table: what is planned of each mode and of each change, or the refusal of the lowest mode that is refused.
+use mathlib.Core.Path.{_≡_}
+use mathlib.Core.List.{[]}
+use Prim.Native.Nat.{ℕ, suc, _+_, _*_, _<_}
+use lib.ListN.{length, getD, replicate}
+use Rattle.units.specs.Ticks.{tick}
+use Rattle.units.specs.Tokens.{token}
+use Rattle.terms.specs.Limits.{MODES, ACTORS, CHANNELS}
+use Rattle.terms.specs.Period.{firing}
+use Rattle.terms.specs.declared.refusal.Place.{Place}
+use Rattle.terms.specs.declared.refusal.Place.the-variants.{Mode as AtMode, Actor as AtActor, Processor as AtProcessor}
+use Rattle.terms.specs.declared.refusal.Refusal.{Refusal}
+use Rattle.graph.specs.declared.shape.Mode.{Mode}
+use Rattle.graph.specs.declared.shape.Table.{Table}
+use Rattle.graph.specs.declared.Verdict.the-variants.{Cyclic, Ends, Unbalanced, Overloaded, Sound}
+use Rattle.graph.specs.declared.Judgement.{Judgement}
+use Rattle.graph.specs.Shape.{modeAt, Active}
+use Rattle.graph.specs.Judged.{Judged, refusedBy}
+use Rattle.schedule.specs.declared.Timing.the-variants.{OnTime}
+use Rattle.schedule.specs.declared.Timetable.{Timetable}
+use Rattle.schedule.specs.Scheduled.{Scheduled, lateBy}
+use Rattle.change.specs.declared.Running.{Running}
+use Rattle.change.specs.declared.Timing.{Timing}
+use Rattle.change.specs.Work.{preparedOf}
+use Rattle.change.specs.Change.{Changes}
+use Rattle.whole.specs.declared.Part.{Part}
+use Rattle.whole.specs.declared.Whole.{Whole}
+use Rattle.whole.specs.declared.Answer.{Answer}
+use Rattle.whole.specs.declared.Answer.the-variants.{Planned as IsPlanned, Refused as IsRefused}
+use Rattle.whole.specs.declared.Outcome.{Outcome}
+
+-- what stands past the end of an array
+abbrev pub noPart : Part
+noPart =
+    record {
+      source = 0;
+      sink = 0;
+      iteration = tick 0;
+      startup = tick 0;
+      firings = [];
+      periods = [];
+      starts = [];
+      sizes = [];
+      tokens = [];
+    }
+
+-- no change, and nothing planned: of a mode, and of a table
+abbrev pub noTiming : Timing
+noTiming = record { overlap = tick 0; offset = tick 0; worst = tick 0 }
+
+abbrev pub emptyPart : Part
+emptyPart =
+    record {
+      source = 0;
+      sink = 0;
+      iteration = tick 0;
+      startup = tick 0;
+      firings = replicate ACTORS (firing 0);
+      periods = replicate ACTORS (tick 0);
+      starts = replicate ACTORS (tick 0);
+      sizes = replicate CHANNELS (token 0);
+      tokens = replicate CHANNELS (token 0);
+    }
+
+abbrev pub emptyWhole : Whole
+emptyWhole = record { parts = replicate MODES emptyPart; changes = replicate (MODES * MODES) noTiming }
+
+-- what is planned of mode k, and of the change from mode k to mode l
+abbrev pub partAt : Whole → ℕ → Part
+partAt w k = getD (w .parts) k noPart
+
+abbrev pub changeAt : Whole → ℕ → ℕ → Timing
+changeAt w k l = getD (w .changes) (MODES * k + l) noTiming
+
+-- a mode is in the plan when it has an actor
+abbrev pub Listed : Table → ℕ → Type 0
+Listed t k = (k < MODES) × ((i : ℕ) × Active (modeAt t k) i)
+
+abbrev pub refusal : ℕ → Place → Refusal
+refusal n p = record { number = n; place = p }
+
+-- The mode with number n is refused: by the first of 6 to 10 that applies, with the place that it names.
+pub data ModeRefused (m : Mode) (n : ℕ) : Refusal → Type 0 where
+  by-6 : Judged m (refusedBy Cyclic) → ModeRefused m n (refusal 6 (AtMode n))
+  by-7 : Judged m (refusedBy Ends) → ModeRefused m n (refusal 7 (AtMode n))
+  by-8 : Judged m (refusedBy Unbalanced) → ModeRefused m n (refusal 8 (AtMode n))
+  by-9 : {p : ℕ} → Judged m (refusedBy (Overloaded p)) → ModeRefused m n (refusal 9 (AtProcessor n p))
+  by-10 : {a : ℕ} {j : Judgement} → Judged m j → j .verdict ≡ Sound → Scheduled m j (lateBy a)
+      → ModeRefused m n (refusal 10 (AtActor n (suc a)))
+
+-- the numbers of a mode that is judged and scheduled
+abbrev pub partOf : Judgement → Timetable → Part
+partOf j s =
+    record {
+      source = j .source;
+      sink = j .sink;
+      iteration = j .iteration;
+      startup = s .startup;
+      firings = j .firings;
+      periods = j .periods;
+      starts = s .starts;
+      sizes = s .sizes;
+      tokens = s .tokens;
+    }
+
+-- A mode is not refused, and p is what is planned of it.
+pub record ModePlanned (m : Mode) (p : Part) : Type 0 where
+  pub judgement : Judgement
+  pub timetable : Timetable
+  pub judged : Judged m judgement
+  pub sound : judgement .verdict ≡ Sound
+  pub scheduled : Scheduled m judgement timetable
+  pub on-time : timetable .timing ≡ OnTime
+  pub part : p ≡ partOf judgement timetable
+
+-- what is planned of mode k of a table: nothing where it is not listed
+pub record IsPart (t : Table) (k : ℕ) (p : Part) : Type 0 where
+  pub listed : Listed t k → ModePlanned (modeAt t k) p
+  pub unlisted : (Listed t k → ⊥) → p ≡ emptyPart
+
+-- a planned mode as it runs
+abbrev pub runningOf : Mode → Part → Running
+runningOf m p = preparedOf (m .active) (m .actors) (p .iteration) (p .firings) (p .periods) (p .starts) (p .startup)
+
+-- a change leads from a listed mode to another
+abbrev pub Leads : Table → ℕ → ℕ → Type 0
+Leads t k l = Listed t k × Listed t l × (k ≡ l → ⊥)
+
+-- c is the change from mode k to mode l: all 0 where there is none
+pub record IsChange (t : Table) (w : Whole) (k l : ℕ) (c : Timing) : Type 0 where
+  pub leads : Leads t k l → Changes (runningOf (modeAt t k) (partAt w k)) (runningOf (modeAt t l) (partAt w l)) c
+  pub leads-not : (Leads t k l → ⊥) → c ≡ noTiming
+
+-- w is the plan of a table of which no mode is refused
+pub record Planned (t : Table) (w : Whole) : Type 0 where
+  pub parts-long : length (w .parts) ≡ MODES
+  pub part : (k : ℕ) → k < MODES → IsPart t k (partAt w k)
+  pub changes-long : length (w .changes) ≡ MODES * MODES
+  pub change : (k l : ℕ) → k < MODES → l < MODES → IsChange t w k l (changeAt w k l)
+
+-- The lowest mode that is refused, of those that are listed, refuses the table, and there is no plan; or there is one.
+pub data Planning (t : Table) : Outcome → Type 0 where
+  refused : {k : ℕ} {r : Refusal} → Listed t k → ((l : ℕ) → l < k → Listed t l → (p : Part) × ModePlanned (modeAt t l) p)
+      → ModeRefused (modeAt t k) (suc k) r → Planning t (record { answer = IsRefused r; whole = emptyWhole })
+  planned : {w : Whole} → Planned t w → Planning t (record { answer = IsPlanned; whole = w })

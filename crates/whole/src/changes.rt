@@ -1,0 +1,107 @@
+// The changes between the modes of a table.
+use crate::Part;
+use change::Running;
+use change::Timing;
+use change::change;
+use change::prepare;
+use graph::shape::Actor;
+use graph::shape::Table;
+use terms::limits::ACTORS;
+use terms::limits::MODES;
+use units::Firing;
+use units::Tick;
+ghost use mathlib.Core.Path.{_≡_};
+ghost use Prim.Native.Nat.{_*_};
+ghost use Rattle.terms.specs.Limits.{MODES};
+ghost use Rattle.graph.specs.Proper.{ProperTable};
+ghost use Rattle.change.specs.Change.{Ready};
+ghost use Rattle.whole.specs.Whole.{noPart, noTiming, IsPart};
+ghost use Rattle.whole.specs.Steps.{Made, runningsOf, AllReady, Between, ChangeOf};
+
+// No change.
+pub(crate) fn none() -> Timing
+    ensures { λ r. ⌜ r ≡ noTiming ⌝ }
+{
+    Timing {
+        overlap: Tick(0),
+        offset: Tick(0),
+        worst: Tick(0),
+    }
+}
+
+// A mode in which nothing runs.
+fn idle() -> Running {
+    let actor = Actor {
+        phases: 0,
+        wcet: Tick(0),
+        processor: 0,
+    };
+    Running {
+        active: 0,
+        actors: [actor; ACTORS],
+        iteration: Tick(0),
+        firings: [Firing(0); ACTORS],
+        periods: [Tick(0); ACTORS],
+        starts: [Tick(0); ACTORS],
+        startup: Tick(0),
+        since: [Tick(0); ACTORS],
+        until: [Tick(0); ACTORS],
+    }
+}
+
+// The modes of a table with these parts, as they run.
+pub(crate) fn runnings_of(table: Table, parts: [Part; MODES]) -> [Running; MODES]
+    requires { ⌜ ProperTable table × Made MODES (IsPart table) noPart parts MODES ⌝ }
+    ensures { λ r. ⌜ r ≡ runningsOf table parts ⌝ }
+{
+    let mut runnings = [idle(); MODES];
+    for k in 0..MODES {
+        let mode = table.modes[k];
+        let part = parts[k];
+        let actors = mode.actors;
+        let firings = part.firings;
+        let periods = part.periods;
+        let starts = part.starts;
+        runnings[k] = prepare(
+            mode.active,
+            actors,
+            part.iteration,
+            firings,
+            periods,
+            starts,
+            part.startup,
+        );
+    }
+    runnings
+}
+
+// The change from the mode at place k to the mode at place l.
+fn between(old: Running, new: Running, k: usize, l: usize) -> Timing
+    requires { ⌜ ((old .active ≡ 0 → ⊥) → Ready old) × ((new .active ≡ 0 → ⊥) → Ready new) ⌝ }
+    ensures { λ r. ⌜ Between old new k l r ⌝ }
+{
+    if old.active == 0 {
+        return none();
+    }
+    if new.active == 0 {
+        return none();
+    }
+    if k == l {
+        return none();
+    }
+    change(old, new)
+}
+
+// The changes between all pairs of modes.
+pub(crate) fn changes_of(runnings: [Running; MODES]) -> [Timing; 64]
+    requires { ⌜ AllReady runnings ⌝ }
+    ensures { λ r. ⌜ Made (MODES * MODES) (ChangeOf runnings) noTiming r (MODES * MODES) ⌝ }
+{
+    let mut changes = [none(); 64];
+    for n in 0..64 {
+        let k = n / MODES;
+        let l = n % MODES;
+        changes[n] = between(runnings[k], runnings[l], k, l);
+    }
+    changes
+}

@@ -1,0 +1,85 @@
+// The plan of a whole table: its modes, and the changes between them.
+mod changes;
+mod modes;
+
+use change::Timing;
+use graph::shape::Table;
+use terms::limits::ACTORS;
+use terms::limits::CHANNELS;
+use terms::limits::MODES;
+use terms::refusal::Refusal;
+use units::Firing;
+use units::Tick;
+use units::Token;
+ghost use mathlib.Core.Path.{_≡_};
+ghost use Rattle.graph.specs.Proper.{ProperTable};
+ghost use Rattle.whole.specs.Whole.{emptyWhole, Planning};
+ghost use Rattle.whole.specs.declared.Answer.the-variants.{Refused};
+
+// What is planned of a mode. Places of actors count from 0; all 0 where the mode is not listed.
+pub struct Part {
+    pub source: usize,
+    pub sink: usize,
+    pub iteration: Tick,
+    pub startup: Tick,
+    pub firings: [Firing; ACTORS],
+    pub periods: [Tick; ACTORS],
+    pub starts: [Tick; ACTORS],
+    pub sizes: [Token; CHANNELS],
+    pub tokens: [Token; CHANNELS],
+}
+
+// What is planned of a table. The change from mode m to mode n stands at MODES times m plus n; all 0 where there is none.
+pub struct Whole {
+    pub parts: [Part; MODES],
+    pub changes: [Timing; 64],
+}
+
+// Whether a table has a plan, or which refusal it gets.
+pub enum Answer {
+    Planned,
+    Refused(Refusal),
+}
+
+// The answer to a table, and its plan; where it is refused, nothing is planned.
+pub struct Outcome {
+    pub answer: Answer,
+    pub whole: Whole,
+}
+
+// Nothing planned of a table.
+pub fn empty() -> Whole
+    ensures { λ r. ⌜ r ≡ emptyWhole ⌝ }
+{
+    let parts = [modes::nothing(); MODES];
+    let changes = [changes::none(); 64];
+    Whole { parts, changes }
+}
+
+fn refused(refusal: Refusal) -> Outcome
+    ensures { λ r. ⌜ r ≡ record { answer = Refused refusal; whole = emptyWhole } ⌝ }
+{
+    Outcome {
+        answer: Answer::Refused(refusal),
+        whole: empty(),
+    }
+}
+
+// Plans a table.
+pub fn plan_of(table: Table) -> Outcome
+    requires { ⌜ ProperTable table ⌝ }
+    ensures { λ r. ⌜ Planning table r ⌝ }
+{
+    let found = modes::parts_of(table);
+    let answer = found.answer;
+    if let Answer::Refused(refusal) = answer {
+        return refused(refusal);
+    }
+    let parts = found.parts;
+    let runnings = changes::runnings_of(table, parts);
+    let changes = changes::changes_of(runnings);
+    Outcome {
+        answer: Answer::Planned,
+        whole: Whole { parts, changes },
+    }
+}
