@@ -1,0 +1,2 @@
+-- The plan of a text, and the words that it leaves.
+pub mod Plans

@@ -1,0 +1,66 @@
+-- What the planner answers for every text and every buffer, and what it leaves in the buffer.
+use mathlib.Core.Path.{_≡_}
+use mathlib.Core.Bool.{true, false}
+use mathlib.Core.List.{List}
+use Prim.Native.Nat.{ℕ}
+use lib.ListN.{length}
+use Rattle.terms.specs.declared.refusal.Place.the-variants.{Nowhere}
+use Rattle.terms.specs.declared.refusal.Refusal.{Refusal}
+use Rattle.graph.specs.declared.shape.Table.{Table}
+use Rattle.graph.specs.Shape.{emptyTable}
+use Rattle.table.specs.declared.Answer.the-variants.{Read, Refused as NotRead}
+use Rattle.table.specs.Told.{Told}
+use Rattle.whole.specs.declared.Whole.{Whole}
+use Rattle.whole.specs.declared.Answer.the-variants.{Refused as NotPlanned}
+use Rattle.whole.specs.Whole.{emptyWhole, Planned, Planning}
+use Rattle.layout.specs.Words.{WORDS, wordsOf}
+use Rattle.printer.specs.Printed.{PRINTED, planText, Shows}
+use Rattle.planner.specs.declared.Answer.{Answer}
+use Rattle.planner.specs.declared.Answer.the-variants.{Accepted, Refused}
+use Rattle.planner.specs.declared.Recalled.{Recalled}
+use Rattle.planner.specs.declared.Printing.{Printing}
+use Rattle.planner.specs.declared.Printing.the-variants.{Printed, Refused as NotPrinted}
+
+-- Refusal 15 names no place.
+abbrev pub noPlan : Refusal
+noPlan = record { number = 15; place = Nowhere }
+
+-- The text is read, and t is the table of its rows.
+abbrev pub Reads : List ℕ → Table → Type 0
+Reads text t = Told text (record { answer = Read; table = t })
+
+-- The answer to a text, with a buffer that holds these words before and those after: 15 where the buffer has another length; then the first refusal of
+-- the text's length and rows; then that of its modes; and otherwise the words of its plan. A refusal leaves the buffer as it stood.
+pub data Plans (text before : List ℕ) : Answer → List ℕ → Type 0 where
+  wrong-length : (length before ≡ WORDS → ⊥) → Plans text before (Refused noPlan) before
+  not-read : {r : Refusal} → length before ≡ WORDS → Told text (record { answer = NotRead r; table = emptyTable })
+      → Plans text before (Refused r) before
+  not-planned : {t : Table} {r : Refusal} → length before ≡ WORDS → Reads text t → Planning t (record { answer = NotPlanned r; whole = emptyWhole })
+      → Plans text before (Refused r) before
+  accepted : {t : Table} {w : Whole} → length before ≡ WORDS → Reads text t → Planned t w → Plans text before Accepted (wordsOf t w)
+
+-- Words that some accepted table leaves.
+abbrev pub Stored : List ℕ → Type 0
+Stored words = (text before : List ℕ) × Plans text before Accepted words
+
+-- The table t of some text, with what is planned of it, leaves these words.
+pub record Leaves (t : Table) (w : Whole) (words : List ℕ) : Type 0 where
+  pub text : List ℕ
+  pub reads : Reads text t
+  pub planned : Planned t w
+  pub left : words ≡ wordsOf t w
+
+-- What is recalled of some words: nothing where no accepted table leaves them; else the table and its plan.
+abbrev pub forgotten : Recalled
+forgotten = record { good = false; table = emptyTable; whole = emptyWhole }
+
+pub data Recalls (words : List ℕ) : Recalled → Type 0 where
+  not-stored : (Stored words → ⊥) → Recalls words forgotten
+  stored : {t : Table} {w : Whole} → Leaves t w words → Recalls words (record { good = true; table = t; whole = w })
+
+-- What is printed of some words into a buffer of bytes: 15, and the bytes as they stood, where its length is another or no accepted table leaves the words.
+pub data Prints (words before : List ℕ) : Printing → List ℕ → Type 0 where
+  no-room : (length before ≡ PRINTED → ⊥) → Prints words before (NotPrinted noPlan) before
+  not-stored : length before ≡ PRINTED → (Stored words → ⊥) → Prints words before (NotPrinted noPlan) before
+  printed : {t : Table} {w : Whole} {after : List ℕ} {n : ℕ} → length before ≡ PRINTED → Leaves t w words → Shows (planText t w) after n
+      → Prints words before (Printed n) after

@@ -1,0 +1,122 @@
+// The planner: a table into the caller's words, whether words are such a plan, and what is printed of one.
+use graph::shape::Table;
+use layout::WORDS;
+use printer::PRINTED;
+use proper::proper;
+use terms::refusal::Place;
+use terms::refusal::Refusal;
+use whole::Whole;
+use whole::plan_of;
+ghost use mathlib.Core.Path.{_≡_};
+ghost use Rattle.numbers.specs.Decides.{Decides};
+ghost use Rattle.planner.specs.Plans.{noPlan, Plans, Stored, Recalls, forgotten, Prints};
+
+// What is answered for a table.
+pub enum Answer {
+    Accepted,
+    Refused(Refusal),
+}
+
+// A plan that words hold: whether they hold one, its table and what is planned of it.
+pub struct Recalled {
+    pub good: bool,
+    pub table: Table,
+    pub whole: Whole,
+}
+
+// How many bytes were printed.
+pub enum Printing {
+    Printed(usize),
+    Refused(Refusal),
+}
+
+fn no_plan() -> Refusal
+    ensures { λ r. ⌜ r ≡ noPlan ⌝ }
+{
+    let place = Place::Nowhere;
+    Refusal { number: 15, place }
+}
+
+// Plans the table of a text into the words; a text that is refused leaves them as they stood.
+pub fn plan(text: &[u8], words: &mut [u64]) -> Answer
+    ensures { λ r. ⌜ Plans (now (text .entry)) (now (words .entry)) r (now (words .exit)) ⌝ }
+{
+    if words.len() != WORDS {
+        return Answer::Refused(no_plan());
+    }
+    let reading = table::read(text);
+    let read = reading.answer;
+    if let table::Answer::Refused(refusal) = read {
+        return Answer::Refused(refusal);
+    }
+    let table = reading.table;
+    let outcome = plan_of(table);
+    let planned = outcome.answer;
+    if let whole::Answer::Refused(refusal) = planned {
+        return Answer::Refused(refusal);
+    }
+    let whole = outcome.whole;
+    layout::write(table, whole, words);
+    Answer::Accepted
+}
+
+fn forget() -> Recalled
+    ensures { λ r. ⌜ r ≡ forgotten ⌝ }
+{
+    Recalled {
+        good: false,
+        table: table::empty(),
+        whole: whole::empty(),
+    }
+}
+
+// The plan that words hold, whatever they are.
+pub fn recall(words: &[u64]) -> Recalled
+    ensures { λ r. ⌜ Recalls (now (words .entry)) r ⌝ }
+{
+    if words.len() != WORDS {
+        return forget();
+    }
+    let table = layout::graph_of(words);
+    if !proper(table) {
+        return forget();
+    }
+    let outcome = plan_of(table);
+    let planned = outcome.answer;
+    if let whole::Answer::Refused(refusal) = planned {
+        return forget();
+    }
+    let whole = outcome.whole;
+    if !layout::holds(table, whole, words) {
+        return forget();
+    }
+    Recalled {
+        good: true,
+        table,
+        whole,
+    }
+}
+
+// Whether words are exactly what some accepted table leaves.
+pub fn stored(words: &[u64]) -> bool
+    ensures { λ r. ⌜ Decides (Stored (now (words .entry))) r ⌝ }
+{
+    let recalled = recall(words);
+    recalled.good
+}
+
+// Prints the plan that words hold, in a buffer of the one length.
+pub fn print(words: &[u64], out: &mut [u8]) -> Printing
+    ensures { λ r. ⌜ Prints (now (words .entry)) (now (out .entry)) r (now (out .exit)) ⌝ }
+{
+    if out.len() != PRINTED {
+        return Printing::Refused(no_plan());
+    }
+    let recalled = recall(words);
+    if !recalled.good {
+        return Printing::Refused(no_plan());
+    }
+    let table = recalled.table;
+    let whole = recalled.whole;
+    Printing::Printed(printer::print(table, whole, out))
+}
