@@ -1,9 +1,9 @@
--- tables::main meets its contract. Assumes nothing.
+-- vectors::main meets its contract. Assumes nothing.
 use borrow.Author.Needs.{needs}
 use Prim.Native.Nat.{_-_, _<_, _^_}
 use native.Mathlib.Omega.{arith}
-use Rattle.tables.proofs.main.Statement.{statement}
-use Rattle.tables.proofs.main.Tie as tie
+use Rattle.vectors.proofs.main.Statement.{statement}
+use Rattle.vectors.proofs.main.Tie as tie
 
 abbrev Inv-loop : tie.InvT-loop
 Inv-loop i₀ i-end i = i-end < 2 ^ 64

@@ -1,0 +1,2 @@
+-- What the programs say.
+pub mod Says
