@@ -1,0 +1,6 @@
+-- What the proofs lean on, and demand 3.
+pub mod Unique
+pub mod Steps
+pub mod Demand
+mod Settled
+mod Worked

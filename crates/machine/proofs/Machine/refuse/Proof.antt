@@ -1,0 +1,7 @@
+-- machine::Machine::refuse meets its contract. Assumes nothing.
+use borrow.Author.Needs.{needs}
+use Rattle.machine.proofs.Machine.refuse.Statement.{statement}
+use Rattle.machine.proofs.Machine.refuse.Tie as tie
+
+pub refuse-spec : {M : Type 1} → statement M
+refuse-spec = tie.close (tie.spec (λ c κs. search needs) (λ c. rw (c .refusal .ensures)))

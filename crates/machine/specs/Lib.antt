@@ -1,0 +1,3 @@
+-- What the machine answers.
+pub mod Answers
+pub mod Steps

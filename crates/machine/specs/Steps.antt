@@ -1,0 +1,46 @@
+-- Model of the machine's code: the lowest mode, and the change of a machine.
+use Prim.Native.Nat.{ℕ, _+_, _-_, _*_, _/_, _^_, _≤_, _<_}
+use Rattle.numbers.specs.Lowest.{lowestOr}
+use Rattle.terms.specs.Limits.{MODES, CLOCK-LIMIT}
+use Rattle.units.specs.declared.Tick.{Tick}
+use Rattle.units.specs.Ticks.{tick, laterOf}
+use Rattle.graph.specs.declared.shape.Table.{Table}
+use Rattle.whole.specs.declared.Whole.{Whole}
+use Rattle.whole.specs.Whole.{changeAt}
+use Rattle.planned.specs.Plan.{isListed, partOf}
+use Rattle.machine.specs.declared.Machine.{Machine}
+use Rattle.machine.specs.declared.Course.{Course}
+use Rattle.machine.specs.declared.Reply.the-variants.{Accepted}
+use Rattle.machine.specs.declared.Answer.{Answer}
+
+-- the lowest number of a listed mode; 0 where there is none
+abbrev pub lowestOf : Table → ℕ
+lowestOf t = lowestOr (isListed t) 0 MODES 1
+
+abbrev pub courseOf : Whole → ℕ → ℕ → Course
+courseOf w o l = record { iteration = partOf w o .iteration; old = partOf w o .startup; new = partOf w l .startup; offset = changeAt w (o - 1) (l - 1) .offset }
+
+-- ticks so small that every sum fits
+pub record Near (m : Machine) (c : Course) (t : Tick) : Type 0 where
+  pub some : 0 < c .iteration .0
+  pub iteration : c .iteration .0 ≤ 2 ^ 32
+  pub old : c .old .0 ≤ 2 ^ 32
+  pub new : c .new .0 ≤ 2 ^ 32
+  pub offset : c .offset .0 ≤ 2 ^ 32
+  pub clock : t .0 ≤ CLOCK-LIMIT
+  pub started : m .started .0 ≤ t .0
+
+-- the tick at which the old mode is left
+abbrev pub leftOf : Machine → Course → Tick → Tick
+leftOf m c clock = tick (m .started .0 + (clock .0 - m .started .0 + c .iteration .0 - 1) / c .iteration .0 * c .iteration .0)
+
+abbrev pub changedOf : Machine → Course → ℕ → Tick → Answer
+changedOf m c mode clock =
+    record {
+      reply = Accepted (tick (leftOf m c clock .0 + c .offset .0 + c .new .0 - clock .0));
+      machine = record {
+        mode = mode;
+        started = tick (leftOf m c clock .0 + c .offset .0);
+        ended = laterOf (tick (leftOf m c clock .0 + c .old .0)) (tick (leftOf m c clock .0 + c .offset .0 + c .new .0));
+      };
+    }

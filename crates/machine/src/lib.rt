@@ -1,0 +1,145 @@
+// The machine: it begins in a mode of a plan and answers requests for another.
+mod modes;
+
+use modes::listed;
+use modes::lowest;
+use planner::recall;
+use terms::limits::CLOCK_LIMIT;
+use terms::refusal::Place;
+use terms::refusal::Refusal;
+use units::Tick;
+ghost use mathlib.Core.Path.{_≡_};
+ghost use Rattle.machine.specs.Answers.{refusalOf, refusing, Begins, Answers};
+ghost use Rattle.machine.specs.Steps.{Near, changedOf};
+
+// A mode, by its number, the tick at which it started, and the tick at which its change ends.
+pub struct Machine {
+    pub mode: u64,
+    pub started: Tick,
+    pub ended: Tick,
+}
+
+pub enum Beginning {
+    Begun(Machine),
+    Refused(Refusal),
+}
+
+// An accepted request is told its delay.
+pub enum Reply {
+    Accepted(Tick),
+    Refused(Refusal),
+}
+
+// The answer to a request, and the machine after it.
+pub struct Answer {
+    pub reply: Reply,
+    pub machine: Machine,
+}
+
+// The ticks of a change: the old mode's iteration, the ends of both start-ups, and the offset.
+pub(crate) struct Course {
+    pub iteration: Tick,
+    pub old: Tick,
+    pub new: Tick,
+    pub offset: Tick,
+}
+
+fn refusal(number: u64) -> Refusal
+    ensures { λ r. ⌜ r ≡ refusalOf number ⌝ }
+{
+    let place = Place::Nowhere;
+    Refusal { number, place }
+}
+
+// Begins a machine, at tick 0 in the mode with this number; 0 stands for the lowest listed mode.
+pub fn start(words: &[u64], mode: u64) -> Beginning
+    ensures { λ r. ⌜ Begins (now (words .entry)) mode r ⌝ }
+{
+    let recalled = recall(words);
+    if !recalled.good {
+        return Beginning::Refused(refusal(15));
+    }
+    let table = recalled.table;
+    let whole = recalled.whole;
+    let chosen = if mode == 0 { lowest(table) } else { mode };
+    if !listed(table, chosen) {
+        return Beginning::Refused(refusal(11));
+    }
+    let place = chosen as usize - 1;
+    let part = whole.parts[place];
+    let ended = part.startup;
+    Beginning::Begun(Machine {
+        mode: chosen,
+        started: Tick(0),
+        ended,
+    })
+}
+
+impl Machine {
+    fn refuse(self, number: u64) -> Answer
+        ensures { λ r. ⌜ r ≡ refusing self number ⌝ }
+    {
+        Answer {
+            reply: Reply::Refused(refusal(number)),
+            machine: self,
+        }
+    }
+
+    // The machine after a change into a mode that was asked for at a tick.
+    fn change(self, course: Course, mode: u64, clock: Tick) -> Answer
+        requires { ⌜ Near self course clock ⌝ }
+        ensures { λ r. ⌜ r ≡ changedOf self course mode clock ⌝ }
+    {
+        let iteration = course.iteration;
+        let since = self.started;
+        let times = clock
+            .minus(since)
+            .plus(iteration)
+            .minus(Tick(1))
+            .per(iteration);
+        let left = since.plus(iteration.times(times));
+        let started = left.plus(course.offset);
+        let set = started.plus(course.new);
+        Answer {
+            reply: Reply::Accepted(set.minus(clock)),
+            machine: Machine {
+                mode,
+                started,
+                ended: left.plus(course.old).later(set),
+            },
+        }
+    }
+
+    // Answers a request for the mode with this number at a tick; a refused one leaves the machine as it stood.
+    pub fn request(self, words: &[u64], mode: u64, clock: Tick) -> Answer
+        ensures { λ r. ⌜ Answers (now (words .entry)) self mode clock r ⌝ }
+    {
+        let recalled = recall(words);
+        if !recalled.good {
+            return self.refuse(15);
+        }
+        let table = recalled.table;
+        let whole = recalled.whole;
+        if !listed(table, self.mode) {
+            return self.refuse(16);
+        }
+        let started = self.started;
+        let ended = self.ended;
+        if !started.by(ended) {
+            return self.refuse(16);
+        }
+        if !listed(table, mode) {
+            return self.refuse(11);
+        }
+        if mode == self.mode {
+            return self.refuse(12);
+        }
+        if !clock.by(Tick(CLOCK_LIMIT)) {
+            return self.refuse(13);
+        }
+        if !ended.by(clock) {
+            return self.refuse(14);
+        }
+        self.change(modes::course(whole, self.mode, mode), mode, clock)
+    }
+}

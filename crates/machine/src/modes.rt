@@ -1,0 +1,60 @@
+// The modes of a plan, by their numbers.
+use crate::Course;
+use graph::shape::Table;
+use terms::limits::MODES;
+use whole::Whole;
+ghost use mathlib.Core.Path.{_≡_};
+ghost use Prim.Native.Nat.{_≤_};
+ghost use Rattle.terms.specs.Limits.{MODES};
+ghost use Rattle.planned.specs.Plan.{isListed};
+ghost use Rattle.machine.specs.Steps.{lowestOf, courseOf};
+
+// Whether the mode is in the plan.
+pub(crate) fn listed(table: Table, mode: u64) -> bool
+    ensures { λ r. ⌜ r ≡ isListed table mode ⌝ }
+{
+    if mode == 0 {
+        return false;
+    }
+    if mode > MODES as u64 {
+        return false;
+    }
+    let place = mode as usize - 1;
+    let at = table.modes[place];
+    at.active != 0
+}
+
+// The lowest mode of the plan.
+pub(crate) fn lowest(table: Table) -> u64
+    ensures { λ r. ⌜ r ≡ lowestOf table ⌝ }
+{
+    for k in 0..MODES {
+        let mode = table.modes[k];
+        if mode.active != 0 {
+            return k as u64 + 1;
+        }
+    }
+    0
+}
+
+// The ticks of the change from one mode to another.
+pub(crate) fn course(whole: Whole, old: u64, new: u64) -> Course
+    requires { ⌜ (1 ≤ old) × (old ≤ MODES) × (1 ≤ new) × (new ≤ MODES) ⌝ }
+    ensures { λ r. ⌜ r ≡ courseOf whole old new ⌝ }
+{
+    let from = old as usize - 1;
+    let to = new as usize - 1;
+    let left = whole.parts[from];
+    let entered = whole.parts[to];
+    let timing = whole.changes[MODES * from + to];
+    let iteration = left.iteration;
+    let before = left.startup;
+    let after = entered.startup;
+    let offset = timing.offset;
+    Course {
+        iteration,
+        old: before,
+        new: after,
+        offset,
+    }
+}
