@@ -1,6 +1,6 @@
 -- What belongs to no one function.
 mod Records
-mod Written
+pub mod Written
 mod Parsed
 mod Lookup
 mod Judged
@@ -12,7 +12,7 @@ mod Short
 mod Listing
 pub mod Again
 mod Scanning
-mod Numerals
+pub mod Numerals
 mod Progress
 mod Settled
 mod Worked

@@ -1,0 +1,4 @@
+-- What the proofs lean on.
+mod Reading
+mod Calling
+mod Settled

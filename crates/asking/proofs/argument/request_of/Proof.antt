@@ -1,0 +1,55 @@
+-- asking::argument::request_of meets its contract. Assumes nothing.
+use borrow.Author.Needs.{needs}
+use borrow.Author.Tests.{not-true, not-false}
+use mathlib.Core.Path.{sym, _∙_}
+use native.Mathlib.Nat.{min-eq-left}
+use native.Mathlib.Omega.{arith}
+use denote.Ref.{now}
+use lib.ListN.{length-take}
+use Rattle.asking.proofs.Reading.{by-no-request, unparted, no-mode, no-clock, read-request}
+use Rattle.asking.proofs.argument.request_of.Statement.{statement}
+use Rattle.asking.proofs.argument.request_of.Tie as tie
+
+mode-counted : tie.Need-slice-aggregate-number-of
+mode-counted c =
+    let p = c .before .before in
+    sym (length-take (p .sign-in .result) (now (p .before .before .args .bytes)) ∙ min-eq-left (omega (arith, c .before .if1 .left)))
+
+returns-2 : tie.Need-returns-2
+returns-2 c =
+    let n = c .before .before .before in
+    by-no-request (c .no-request2 .ensures) (no-mode _ _ (n .before .before .before .sign-in .ensures) (n .number-of .ensures) (not-true _ (c .before .if2 .taken)))
+
+returns-3 : tie.Need-returns-3
+returns-3 c =
+    let n = c .before .before .before in
+    let s = n .before .before .before .before .before .before .before in
+    by-no-request (c .no-request3 .ensures) (no-clock _ _ (s .sign-in .ensures) (n .number-of2 .ensures) (not-true _ (c .before .if3 .taken)))
+
+returns-4 : tie.Need-returns-4
+returns-4 c =
+    let n = c .before .before in
+    let e = n .before .before in
+    let m = e .before .before in
+    read-request _ _ (m .before .before .before .sign-in .ensures) (m .before .before .if1 .left) (m .number-of .ensures) (n .number-of2 .ensures) (not-false _ (e .if2 .left))
+    (not-false _ (c .if3 .left))
+
+pub request-of-spec : {M : Type 1} → statement M
+request-of-spec =
+    tie.close
+    (tie.spec
+    (λ c κs. search needs)
+    (λ c κs. search needs)
+    (λ c. by-no-request (c .no-request .ensures) (unparted _ _ (c .before .before .sign-in .ensures) (c .before .if1 .taken)))
+    mode-counted
+    (λ c κs. search needs)
+    (λ c κs. search needs)
+    returns-2
+    (λ c. search needs)
+    (λ c. search needs)
+    (λ c. search needs)
+    (λ c. search needs)
+    (λ c κs. search needs)
+    (λ c κs. search needs)
+    returns-3
+    returns-4)

@@ -1,0 +1,3 @@
+-- What a call is.
+pub mod Argument
+pub mod Call

@@ -1,0 +1,49 @@
+// Calls of `ask`, one after the other: an argument that ends in .csv names a table, the next is the starting mode, those up to the next table are requests.
+use asking::call;
+use terms::limits::MOST_BYTES;
+
+fn is_table(word: &[u8]) -> bool {
+    let n = word.len();
+    if n < 4 {
+        return false;
+    }
+    let end = &word[n - 4..];
+    (end[0] == b'.') & (end[1] == b'c') & (end[2] == b's') & (end[3] == b'v')
+}
+
+// Whether argument i names a table.
+fn table_at(i: usize) -> bool {
+    let mut word = [0u8; 256];
+    let k = os::arg(i, &mut word);
+    is_table(&word[..k])
+}
+
+// The place of the first argument from i on that names a table; the end where there is none.
+fn next_table(i: usize) -> usize {
+    let end = os::arg_count();
+    for k in i..end {
+        if table_at(k) {
+            return k;
+        }
+    }
+    end
+}
+
+// The call on the table that argument i names.
+fn answer(i: usize, first: usize) {
+    let mut path = [0u8; 256];
+    let k = os::arg(i, &mut path);
+    let file = os::open_read(&path[..k]);
+    let mut text = [0u8; MOST_BYTES + 1];
+    let read = io::read_full(file, &mut text);
+    libc::close(file);
+    call(&text[..read], first, next_table(first));
+}
+
+fn main() {
+    for i in 1..os::arg_count() {
+        if table_at(i) {
+            answer(i, i + 1);
+        }
+    }
+}
