@@ -9,11 +9,11 @@ use Rattle.asking.proofs.argument.request_of.Reads as request
 use Rattle.asking.proofs.call.Kinds as call-kinds
 use Rattle.asking.proofs.call.Reads as call
 
-number-settled : Settles 1 number-kinds.ps number-kinds.r number.Post
-number-settled κs a x y s t p q = number-unique p q
+number-of-settled : Settles 1 number-kinds.ps number-kinds.r number.Post
+number-of-settled κs a x y s t p q = number-unique p q
 
-request-settled : Settles 1 request-kinds.ps request-kinds.r request.Post
-request-settled κs a x y s t p q = request-unique p q
+request-of-settled : Settles 1 request-kinds.ps request-kinds.r request.Post
+request-of-settled κs a x y s t p q = request-unique p q
 
 call-settled : Settles 1 call-kinds.ps call-kinds.r call.Post
 call-settled κs a x y s t p q = planned-unique p q
