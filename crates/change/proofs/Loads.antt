@@ -11,7 +11,7 @@ use borrow.Author.Tests.{ne-eqb}
 use lib.Dec.{T, eqb, leb}
 use Rattle.numbers.specs.Bits.{bit, Has, hasb, has-or-not, has-decides}
 use Rattle.numbers.specs.Decides.{Decides, decides-unique, decides-and, decides-eqb, decides-leb, decides-true, decides-false}
-use Rattle.numbers.specs.Fraction.{Proper, Same, sum-proper, sum-common}
+use Rattle.numbers.specs.Fraction.{Proper, Same, sum-proper, sum-common, nothing}
 use Rattle.numbers.specs.Lowest.{FirstPasses, NonePasses, sought}
 use Rattle.numbers.specs.Sum.{sum, sum-le, sum-most}
 use Rattle.terms.specs.Limits.{ACTORS, MOST-WCET, ITERATION-LIMIT}
@@ -22,7 +22,7 @@ use Rattle.units.specs.declared.Firing.{Firing}
 use Rattle.graph.specs.declared.shape.Actor.{Actor}
 use Rattle.change.specs.declared.Running.{Running}
 use Rattle.change.specs.Work.{Fitting, actorAt, firingsAt, tickAt, workOf, between, countedOf, workBetween}
-use Rattle.change.specs.Change.{actorIn, startOf, askedBy, isOn, nothing, askedOf, Ready}
+use Rattle.change.specs.Change.{actorIn, startOf, askedBy, isOn, askedOf, Ready}
 
 -- works of actors within their ranges are summed within 64 bits
 pub work-fits : (actors : List Actor) (firings : List Firing) (starts : List Tick) → Fitting actors firings starts → (p : ℕ) (a b : Tick) (k : ℕ) → k < ACTORS

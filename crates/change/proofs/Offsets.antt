@@ -12,7 +12,7 @@ use lib.Bits.{bitAnd}
 use lib.Dec.{eqb, leb, ltb, ltb→lt, lt→ltb, leb→le, le→leb}
 use Rattle.numbers.specs.Bits.{bit, Has, hasb, has-and, has-or-not}
 use Rattle.numbers.specs.Extreme.{mostOf, most-next, most-above, most-within, most-at}
-use Rattle.numbers.specs.Fraction.{AtMost, plus, same-plus, same-at-most}
+use Rattle.numbers.specs.Fraction.{AtMost, plus, same-plus, same-at-most, atMostb}
 use Rattle.numbers.specs.Tab.{getD-tab}
 use Rattle.numbers.specs.declared.fraction.Fraction.{Fraction}
 use Rattle.terms.specs.Limits.{ACTORS, PROCESSORS, LOAD-LIMIT}
@@ -22,7 +22,7 @@ use Rattle.units.specs.declared.Tick.{Tick}
 use Rattle.change.specs.declared.Running.{Running}
 use Rattle.change.specs.Work.{tickAt}
 use Rattle.change.specs.Change.{Runs, actorIn, startOf, askedOf, loadAt, Bearable, Bears, Overlap, Offset, Ready}
-use Rattle.change.specs.Waits.{Part, leadOf, overlapOf, oldSide, newSide, atMostb, waitOf, offsetFrom}
+use Rattle.change.specs.Waits.{Part, leadOf, overlapOf, oldSide, newSide, waitOf, offsetFrom}
 use Rattle.change.proofs.Loads.{workIn, work-within, FromFirst, work-first, ToLast, work-last, work-nowhere, asked-proper, asked-work}
 
 -- what two works ask together of a processor, each as a part of its mode's iteration

@@ -11,7 +11,7 @@ use Rattle.numbers.specs.All.{all-decides}
 use Rattle.numbers.specs.Bits.{bit, Has, bit-zero}
 use Rattle.numbers.specs.Decides.{decides-leb}
 use Rattle.numbers.specs.Extreme.{mostOf}
-use Rattle.numbers.specs.Fraction.{AtMost, Same, sumOf}
+use Rattle.numbers.specs.Fraction.{AtMost, Same, sumOf, atMostb}
 use Rattle.numbers.specs.Sum.{sum}
 use Rattle.numbers.specs.Tab.{tab, getD-replicated}
 use Rattle.terms.specs.Limits.{PHASES, PROCESSORS, MOST-WCET, ITERATION-LIMIT, LOAD-LIMIT}
@@ -24,7 +24,6 @@ use Rattle.change.specs.declared.Running.{Running}
 use Rattle.change.specs.declared.Timing.{Timing}
 use Rattle.change.specs.Work.{firingsAt, tickAt, sincesOf, untilsOf, preparedOf}
 use Rattle.change.specs.Change.{actorIn, startOf, askedOf, Bearable, loadAt, Changes, MOST-STARTUP, Ready}
-use Rattle.change.specs.Waits.{atMostb}
 use Rattle.change.proofs.Offsets.{found}
 
 abbrev stage : ℕ → ℕ → ℕ → Actor

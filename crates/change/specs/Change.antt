@@ -7,7 +7,7 @@ use native.Mathlib.Omega.{arith}
 use lib.Dec.{eqb, leb, ltb}
 use Rattle.numbers.specs.Bits.{Has, hasb}
 use Rattle.numbers.specs.Extreme.{Least, Greatest, least-unique, greatest-unique}
-use Rattle.numbers.specs.Fraction.{AtMost, plus, sumOf}
+use Rattle.numbers.specs.Fraction.{AtMost, plus, sumOf, nothing}
 use Rattle.numbers.specs.declared.fraction.Fraction.{Fraction}
 use Rattle.terms.specs.Limits.{ACTORS, PROCESSORS, ITERATION-LIMIT, LOAD-LIMIT}
 use Rattle.terms.specs.Period.{partOf}
@@ -42,9 +42,6 @@ Overlap old new x = Greatest (λ v. (v ≡ 0) ⊎ ((i : ℕ) × Runs old i × Ru
 -- actor i runs on processor p
 abbrev pub isOn : Running → ℕ → ℕ → Bool
 isOn r p i = hasb (r .active) i && eqb (actorIn r i .processor) p
-
-abbrev pub nothing : Fraction
-nothing = record { over = 0; under = 1 }
 
 -- what those actors of a mode ask together of processor p that count
 abbrev pub askedOf : Running → ℕ → (ℕ → Bool) → Fraction

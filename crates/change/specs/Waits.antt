@@ -1,11 +1,11 @@
 -- Model of wait.rt: how long a new mode waits for an old one.
-use mathlib.Core.Bool.{Bool, cond}
-use Prim.Native.Nat.{ℕ, _*_, _-_, _≤_, _<_}
+use mathlib.Core.Bool.{cond}
+use Prim.Native.Nat.{ℕ, _-_, _≤_, _<_}
 use lib.Bits.{bitAnd}
-use lib.Dec.{eqb, leb}
+use lib.Dec.{eqb}
 use Rattle.numbers.specs.Bits.{hasb}
 use Rattle.numbers.specs.Extreme.{mostOf}
-use Rattle.numbers.specs.Fraction.{plus}
+use Rattle.numbers.specs.Fraction.{plus, atMostb}
 use Rattle.numbers.specs.declared.fraction.Fraction.{Fraction}
 use Rattle.terms.specs.Limits.{ACTORS, ITERATION-LIMIT}
 use Rattle.terms.specs.Period.{partOf}
@@ -34,9 +34,6 @@ oldSide r i = record { processor = actorIn r i .processor; start = tickAt (r .st
 
 abbrev pub newSide : Running → ℕ → Side
 newSide r j = record { processor = actorIn r j .processor; start = tickAt (r .starts) j; asked = partOf (tickAt (r .until) j) (r .iteration) }
-
-abbrev pub atMostb : Fraction → Fraction → Bool
-atMostb a b = leb (a .over * b .under) (b .over * a .under)
 
 abbrev pub waitOf : Fraction → Side → Side → Tick
 waitOf limit a b = cond (eqb (a .processor) (b .processor)) (cond (atMostb (plus (a .asked) (b .asked)) limit) (tick 0) (minusOf (a .start) (b .start))) (tick 0)

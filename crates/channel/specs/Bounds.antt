@@ -56,9 +56,6 @@ module _ (p c : End) (w : Paced p c) where
 pub cycle-most : (e : End) → Proper e → cycleTokens e .0 ≤ MOST-TOKENS
 cycle-most e h = le-trans (tokens-most e h (e .phases) (le-refl (e .phases))) (mul-le-mul-right MOST-RATE (h .phases))
 
-pub period-most : (e : End) → Brief e → e .period .0 ≤ ITERATION-LIMIT
-period-most e h = omega (arith, h .cycle, mul-le-mul-right (e .period .0) (h .proper .some))
-
 module _ (p c : End) where
   -- the pace, from what it is made of
   pub common-is : {made taken common : Token} → made ≡ cycleTokens p → taken ≡ cycleTokens c → IsGcd (made .0) (taken .0) (common .0) → common ≡ commonOf p c

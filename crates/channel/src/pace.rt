@@ -6,7 +6,7 @@ use units::Firing;
 use units::Tick;
 use units::Token;
 ghost use mathlib.Core.Path.{_≡_};
-ghost use Prim.Native.Nat.{_≤_, _^_};
+ghost use Prim.Native.Nat.{_≤_};
 ghost use Rattle.units.specs.Tokens.{token};
 ghost use Rattle.channel.specs.Flow.{Proper, Paced, cycleTokens, cycleTicks};
 ghost use Rattle.channel.specs.Phases.{paceOf};

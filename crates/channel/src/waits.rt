@@ -9,12 +9,11 @@ use units::Firing;
 use units::Tick;
 use units::Token;
 ghost use mathlib.Core.Path.{_≡_};
-ghost use Prim.Native.Nat.{_≤_, _<_};
+ghost use Prim.Native.Nat.{_≤_};
 ghost use lib.ListN.{getD};
-ghost use Rattle.numbers.specs.Extreme.{mostOf};
 ghost use Rattle.terms.specs.Limits.{PHASES, ITERATION-LIMIT};
 ghost use Rattle.channel.specs.Flow.{MOST-START};
-ghost use Rattle.channel.specs.Phases.{noMark, giveOf, giveAt, takeOf, takeAt, waitOf, longestOf, askedBy, latestOf};
+ghost use Rattle.channel.specs.Phases.{noMark, giveOf, giveAt, takeOf, waitOf, longestOf, askedBy, latestOf};
 ghost use Rattle.channel.specs.Bounds.{Brief, Near, Short, Early, Given, Ready};
 
 // A phase of either end: by how many ticks it brings a wait later and sooner, and the tokens that are left over whole steps.

@@ -4,7 +4,7 @@ use mathlib.Core.Bool.{Bool, true, false, cond}
 use mathlib.Core.List.{List}
 use mathlib.Core.Logic.{_⊎_, inl, inr, ⊎-elim}
 use Prim.Native.Nat.{ℕ, zero, suc, _+_, _*_, _≤_, _<_, _∣_, zero-le}
-use native.Mathlib.Nat.{le-refl, le-step, le-of-suc-le-suc, lt-suc-self, lt-of-lt-of-le, eq-or-lt-of-le, not-suc-le-zero, le-of-dvd, dvd-trans, dvd-mul-left, mul-pos, mul-le-mul, le-mul-of-pos-right, one-mul, zero-mul, mul-comm, pos-of-ne-zero}
+use native.Mathlib.Nat.{le-refl, le-step, le-of-suc-le-suc, lt-suc-self, lt-of-lt-of-le, eq-or-lt-of-le, not-suc-le-zero, le-of-dvd, dvd-trans, dvd-mul-left, mul-pos, mul-le-mul, le-mul-of-pos-right, zero-mul, mul-comm, pos-of-ne-zero}
 use native.Mathlib.Numerals.{add-one}
 use native.Mathlib.Omega.{arith}
 use native.Mathlib.Decide.{decLt}
@@ -13,7 +13,8 @@ use Rattle.numbers.specs.Bits.{Has, hasb, has-or-not, has-decides}
 use Rattle.numbers.specs.Decides.{decides-true, decides-false}
 use Rattle.numbers.specs.Extreme.{mostOf, most-greatest}
 use Rattle.numbers.specs.Multiples.{LcmOfAll, lcm-none, lcm-more, lcm-past, lcm-pos}
-use Rattle.numbers.specs.Reckoned.{lcmOf, lcm-of, roundedOf, rounded-of}
+use Rattle.numbers.specs.Quotient.{roundedOf, rounded-of}
+use Rattle.numbers.specs.Reckoned.{lcmOf, lcm-of}
 use Rattle.numbers.specs.Tab.{length-tab, getD-tab, is-tab, tab-at, tab-same}
 use Rattle.units.specs.declared.Tick.{Tick}
 use Rattle.units.specs.declared.Firing.{Firing}
@@ -228,9 +229,6 @@ module _ (m : Mode) (proper : ProperMode m) where
             (λ i a. subst (λ (q : Firing). q .0 ∣ h .0) (sym (firings-at i (a .0)))
             (dvd-trans (firingsOf m X i .0) (subst (λ (q : ℕ). firingsOf m X i .0 ∣ q) (omega (arith, ap (λ (k : ℕ). actorAt m i .phases * k) (scaled i a))) (dvd-mul-left (firingsOf m X i .0) n))
             (subst (λ (t : ℕ). firingsOf m y i .0 ∣ t) (period-whole m y iteration i a) (dvd-mul-left (firingsOf m y i .0) (periodOf h (firingsOf m y i) .0)))))
-
-    pub length-above : lengthOf ws qs (m .active) ≡ TooLong → (h : Tick) → Iteration m X h → ITERATION-LIMIT < h .0
-    length-above e h = above e X 1 h (le-refl 1) (λ i a. sym (one-mul (X i)))
 
     -- so, where each balancing vector is a multiple of the counts, none has an iteration within the limit
     pub above-unbalanced : lengthOf ws qs (m .active) ≡ TooLong

@@ -11,9 +11,9 @@ use native.Mathlib.Decide.{decLe}
 use lib.Dec.{eqb}
 use lib.ListN.{getD}
 use Rattle.numbers.specs.Bits.{hasb, has-decides}
-use Rattle.numbers.specs.Decides.{Decides, decides-unique, decides-leb, decides-not, decides-true, decides-false}
+use Rattle.numbers.specs.Decides.{Decides, decides-unique, decides-not, decides-true, decides-false}
 use Rattle.numbers.specs.Extreme.{Least}
-use Rattle.numbers.specs.Fraction.{Proper, AtMost, Same, sum-proper, sum-common, same-at-most}
+use Rattle.numbers.specs.Fraction.{Proper, AtMost, Same, sum-proper, sum-common, same-at-most, nothing, atMostb, at-most-decides}
 use Rattle.numbers.specs.declared.fraction.Fraction.{Fraction}
 use Rattle.numbers.specs.Lowest.{FirstPasses, NonePasses, lowestOr, lowest-next, lowest-none, lowest-is, sought}
 use Rattle.numbers.specs.Sum.{sum}
@@ -27,15 +27,11 @@ use Rattle.graph.specs.declared.shape.Mode.{Mode}
 use Rattle.graph.specs.Shape.{noActor, actorAt}
 use Rattle.graph.specs.Proper.{ProperMode}
 use Rattle.graph.specs.Balance.{Iteration, firingsOf, workOf}
-use Rattle.graph.specs.Load.{isOn, askedBy, nothing, loadOf, Overloaded, shareOf}
+use Rattle.graph.specs.Load.{isOn, askedBy, loadOf, Overloaded, shareOf}
 use Rattle.graph.specs.Laws.{iteration-pos, period-whole, period-fits}
 use Rattle.graph.specs.Counts.{Counted}
-use Rattle.graph.specs.Lengths.{Light, firingsIn, worksIn, shareFrom, sharesIn, atMostb, overloadedOf}
+use Rattle.graph.specs.Lengths.{Light, firingsIn, worksIn, shareFrom, sharesIn, overloadedOf}
 use Rattle.graph.proofs.Lasting.{works-at}
-
--- the test of two fractions answers whether one is at most the other
-pub at-most-decides : (a b : Fraction) → Decides (AtMost a b) (atMostb a b)
-at-most-decides a b = decides-leb (a .over * b .under) (b .over * a .under)
 
 -- whether the load of processor p is found to be above the limit
 abbrev pub overb : List Tick → Tick → ℕ → Bool

@@ -153,9 +153,6 @@ sorted m = orderOf (predsOf m) (m .active)
 
 module _ (m : Mode) (proper : ProperMode m) where
   -- the predecessor sets are those of the channels
-  pub preds-long : length (predsOf m) ≡ ACTORS
-  preds-long = sets-long m (m .count)
-
   pub preds-joins : (i j : ℕ) → i < ACTORS → Has (getD (predsOf m) i 0) j ↔ Joins m j i
   preds-joins i j l = sets-joins m (m .count) i j l
 

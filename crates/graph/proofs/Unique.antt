@@ -11,7 +11,7 @@ use lib.Seq.{ext-getD}
 use Rattle.numbers.specs.Bits.{Has, hasb, bit, has-decides, has-or-not}
 use Rattle.numbers.specs.Decides.{decides-true}
 use Rattle.numbers.specs.Extreme.{greatest-unique}
-use Rattle.numbers.specs.Fraction.{AtMost, sum-alike}
+use Rattle.numbers.specs.Fraction.{AtMost, sum-alike, nothing}
 use Rattle.numbers.specs.Sum.{sum-same}
 use Rattle.numbers.specs.Tab.{tab-same}
 use Rattle.units.specs.Ticks.{tick}
@@ -24,7 +24,7 @@ use Rattle.graph.specs.declared.Judgement.{Judgement}
 use Rattle.graph.specs.Shape.{Active, actorAt}
 use Rattle.graph.specs.Ends.{Only}
 use Rattle.graph.specs.Balance.{Smallest, Iteration, firingsOf, workOf}
-use Rattle.graph.specs.Load.{Overloaded, isOn, askedBy, nothing, loadOf, shareOf}
+use Rattle.graph.specs.Load.{Overloaded, isOn, askedBy, loadOf, shareOf}
 use Rattle.graph.specs.Laws.{iteration-one, iteration-same}
 use Rattle.graph.specs.Judged.{refusedBy, ofActors, Numbers, Judged, cyclic, no-ends, unbalanced, overloaded, sound}
 

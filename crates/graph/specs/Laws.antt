@@ -97,13 +97,6 @@ module _ (m : Mode) (proper : ProperMode m) (x : ℕ → ℕ) (some : (i : ℕ) 
     period-fits i a = le-div-iff-mul-le (fires i a) .1 (omega (arith, within m x iteration i a))
 
 module _ (m : Mode) (proper : ProperMode m) (x : ℕ → ℕ) (balances : Balances m x) where
-  -- every actor fires, and has work
-  pub firings-pos : (i : ℕ) → Active m i → 0 < firingsOf m x i .0
-  firings-pos = fires m proper x (balances .some)
-
-  pub work-pos : (i : ℕ) → Active m i → 0 < workOf m x i .0
-  work-pos = works m proper x (balances .some)
-
   module _ (h : Tick) (iteration : Iteration m x h) where
     -- every q divides H
     pub firings-divide : (i : ℕ) → Active m i → firingsOf m x i .0 ∣ h .0

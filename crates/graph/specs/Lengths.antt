@@ -1,9 +1,9 @@
 -- Model of iteration.rt and load.rt: firings, works, the iteration's length, periods and shares.
 use mathlib.Core.Path.{_≡_}
-use mathlib.Core.Bool.{Bool, cond, not}
+use mathlib.Core.Bool.{cond, not}
 use mathlib.Core.List.{List}
 use Prim.Native.Nat.{ℕ, zero, suc, _*_, _-_, _≤_, _<_}
-use lib.Dec.{eqb, leb}
+use lib.Dec.{eqb}
 use lib.ListN.{length, getD}
 use Rattle.numbers.specs.Bits.{Has, hasb}
 use Rattle.numbers.specs.Lowest.{lowestOr}
@@ -21,6 +21,7 @@ use Rattle.terms.specs.Period.{firing, beginsAt, periodOf, partOf}
 use Rattle.terms.specs.Reckoned.{commonOf, iterationOf}
 use Rattle.graph.specs.declared.shape.Actor.{Actor}
 use Rattle.graph.specs.Shape.{noActor}
+use Rattle.numbers.specs.Fraction.{atMostb}
 
 -- actors within their ranges
 pub record Fitting (acts : List Actor) : Type 0 where
@@ -80,9 +81,6 @@ shareFrom acts ws p (suc n) = cond (eqb (getD acts n noActor .processor) p) (plu
 
 abbrev pub sharesIn : List Actor → List Tick → List Tick
 sharesIn acts ws = tab PROCESSORS (λ p. shareFrom acts ws (suc p) ACTORS)
-
-abbrev pub atMostb : Fraction → Fraction → Bool
-atMostb a b = leb (a .over * b .under) (b .over * a .under)
 
 abbrev pub overloadedOf : List Tick → Tick → ℕ
 overloadedOf shares h = lowestOr (λ p. not (atMostb (partOf (getD shares (p - 1) (tick 0)) h) LOAD-LIMIT)) 0 PROCESSORS 1

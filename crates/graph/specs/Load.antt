@@ -4,7 +4,7 @@ use Prim.Native.Nat.{ℕ, _≤_}
 use lib.Dec.{eqb}
 use Rattle.numbers.specs.Bits.{hasb}
 use Rattle.numbers.specs.Sum.{sum}
-use Rattle.numbers.specs.Fraction.{sumOf, AtMost}
+use Rattle.numbers.specs.Fraction.{sumOf, AtMost, nothing}
 use Rattle.numbers.specs.declared.fraction.Fraction.{Fraction}
 use Rattle.units.specs.declared.Tick.{Tick}
 use Rattle.units.specs.Ticks.{tick}
@@ -21,9 +21,6 @@ isOn m p i = hasb (m .active) i && eqb (actorAt m i .processor) p
 -- what an actor asks of its processor: wcet / T
 abbrev pub askedBy : Mode → (ℕ → ℕ) → Tick → ℕ → Fraction
 askedBy m x h i = partOf (actorAt m i .wcet) (periodOf h (firingsOf m x i))
-
-abbrev pub nothing : Fraction
-nothing = record { over = 0; under = 1 }
 
 -- the load of processor p
 abbrev pub loadOf : Mode → (ℕ → ℕ) → Tick → ℕ → Fraction

@@ -49,9 +49,3 @@ module _ {A : Type 0} where
 
     pub joined-part : (n i : ℕ) → i < n → part k i (joined n f) ≡ f i
     joined-part n i h = ap (part k i) (sym (append-nil (joined n f))) ∙ part-joined n i [] h
-
-    -- element j of the i-th
-    pub joined-at : (n i j : ℕ) (d : A) → i < n → j < k → getD (joined n f) (k * i + j) d ≡ getD (f i) j d
-    joined-at n i j d h g =
-        sym (getD-part k i j (joined n f) d g)
-        ∙ ap (λ (l : List A). getD l j d) (joined-part n i h)

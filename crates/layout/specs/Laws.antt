@@ -1,13 +1,13 @@
 -- The words of a plan are as many as the buffer has, and hold the table.
 use mathlib.Core.Path.{_≡_, refl, sym, ap, ap₂, _∙_}
 use mathlib.Core.List.{List, _++_}
-use Prim.Native.Nat.{ℕ, _+_, _*_, _%_, _≤_, _<_, _^_}
-use native.Mathlib.Nat.{mod-eq-of-lt, mod-lt}
+use Prim.Native.Nat.{ℕ, _+_, _*_, _%_, _≤_, _<_}
+use native.Mathlib.Nat.{mod-eq-of-lt}
 use native.Mathlib.Omega.{arith}
 use native.Mathlib.Decide.{decLt}
 use lib.ListN.{length, getD, take, replicate, length-append}
 use lib.Seq.{take-at, drop-at, take-all}
-use Rattle.numbers.specs.Tab.{tab, length-tab, is-tab, tab-at, getD-tab, getD-replicated}
+use Rattle.numbers.specs.Tab.{tab, is-tab, getD-tab, getD-replicated}
 use Rattle.terms.specs.Limits.{MODES, ACTORS, CHANNELS, PHASES, MOST-RATE}
 use Rattle.graph.specs.declared.shape.Channel.{Channel}
 use Rattle.graph.specs.declared.shape.Mode.{Mode}
@@ -121,40 +121,3 @@ graph-back t w h =
     ap (λ (l : List Mode). let r : Table = record { modes = l } in r)
     (sym (is-tab MODES (λ m. modeOf (part MODE-WORDS m (modesWords t w ++ changesWords w))) (t .modes) noMode (h .modes-long)
     (λ m l. sym (ap modeOf (part-joined MODE-WORDS (modeWordsAt t w) (length-mode-at t w) MODES m (changesWords w) l) ∙ mode-back (modeAt t m) (h .mode m l) (partAt w m)))))
-
--- what is read has the lengths and the ranges of its types
-pub record Ranged (t : Table) : Type 0 where
-  pub modes : length (t .modes) ≡ MODES
-  pub active : (m : ℕ) → m < MODES → modeAt t m .active < 2 ^ ACTORS
-  pub actors : (m : ℕ) → m < MODES → length (modeAt t m .actors) ≡ ACTORS
-  pub channels : (m : ℕ) → m < MODES → length (modeAt t m .channels) ≡ CHANNELS
-  pub production : (m k : ℕ) → m < MODES → k < CHANNELS → Small (channelAt (modeAt t m) k .production)
-  pub consumption : (m k : ℕ) → m < MODES → k < CHANNELS → Small (channelAt (modeAt t m) k .consumption)
-
-rates-small : (l : List ℕ) → Small (ratesOf l)
-rates-small l =
-    record {
-      long = length-tab PHASES (λ k. getD l k 0 % 256);
-      small = tab-at (λ (r : ℕ). r ≤ MOST-RATE) PHASES (λ k. getD l k 0 % 256) 0 (omega arith) (λ i h. omega (arith, mod-lt (getD l i 0) {m = 256} (omega arith)));
-    }
-
-pub graph-ranged : (l : List ℕ) → Ranged (graphOf l)
-unfolding graphOf modeOf
-graph-ranged l =
-    record {
-      modes = length-tab MODES (λ m. modeOf (part MODE-WORDS m l));
-      active = λ m h. rw (read m h) (mod-lt _ (omega arith));
-      actors = λ m h. rw (read m h) (length-tab ACTORS _);
-      channels = λ m h. rw (read m h) (length-tab CHANNELS _);
-      production = λ m k h g. rw (channel m k h g) (rates-small (stretch 2 PHASES (words m k)));
-      consumption = λ m k h g. rw (channel m k h g) (rates-small (stretch (2 + PHASES) PHASES (words m k)));
-    }
-  where
-    read : (m : ℕ) → m < MODES → modeAt (graphOf l) m ≡ modeOf (part MODE-WORDS m l)
-    read m h = getD-tab MODES (λ m. modeOf (part MODE-WORDS m l)) m noMode h
-
-    words : ℕ → ℕ → List ℕ
-    words m k = part CHANNEL-WORDS k (stretch (HEAD-WORDS + ACTOR-WORDS * ACTORS) (CHANNEL-WORDS * CHANNELS) (part MODE-WORDS m l))
-
-    channel : (m k : ℕ) → m < MODES → k < CHANNELS → channelAt (modeAt (graphOf l) m) k ≡ channelOf (words m k)
-    channel m k h g = ap (λ (x : Mode). channelAt x k) (read m h) ∙ getD-tab CHANNELS (λ k. channelOf (words m k)) k noChannel g

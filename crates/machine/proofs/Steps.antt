@@ -10,7 +10,7 @@ use native.Mathlib.Decide.{decLe}
 use borrow.Author.Tests.{lt-ltb, le-ltb, le-leb, lt-leb, eq-eqb, ne-eqb}
 use lib.Dec.{T, eqb}
 use Rattle.numbers.specs.Extreme.{Least, least-unique}
-use Rattle.numbers.specs.Reckoned.{roundedOf, rounded-of}
+use Rattle.numbers.specs.Quotient.{roundedOf, rounded-of}
 use Rattle.numbers.specs.Lowest.{sought, lowest-is, FirstPasses, NonePasses}
 use Rattle.terms.specs.Limits.{MODES}
 use Rattle.units.specs.declared.Tick.{Tick}

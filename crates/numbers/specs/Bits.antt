@@ -157,14 +157,6 @@ bit-removing-same m i = ⊎-elim (λ (y : Has m i). rw (y, one-mul) (taken-same 
 pub bit-removing-other : (m i j : ℕ) → (j ≡ i → ⊥) → bit (removing m i) j ≡ bit m j
 bit-removing-other m i j n = ⊎-elim (λ (y : Has m i). rw (y, one-mul) (taken-other m i j y n)) (λ (z : bit m i ≡ 0). rw (z, zero-mul, sub-zero)) (has-or-not m i)
 
--- what the set without i has: what it had, but not i
-pub has-removing : (m i j : ℕ) → Has (removing m i) j ↔ ((j ≡ i → ⊥) × Has m j)
-has-removing m i j = (to (ℕ-discrete j i), (λ h. bit-removing-other m i j (h .0) ∙ h .1))
-  where
-    to : Dec (j ≡ i) → Has (removing m i) j → (j ≡ i → ⊥) × Has m j
-    to (yes e) h = absurd (omega (arith, bit-removing-same m i, rw e at h))
-    to (no n) h = (n, sym (bit-removing-other m i j n) ∙ h)
-
 -- two sets below 2 ^ k that have the same numbers are one
 pub bit-ext : (k a b : ℕ) → a < 2 ^ k → b < 2 ^ k → ((i : ℕ) → i < k → bit a i ≡ bit b i) → a ≡ b
 unfolding bit
@@ -273,11 +265,6 @@ pub none-size : (k m : ℕ) → ((i : ℕ) → i < k → Has m i → ⊥) → si
 unfolding sum
 none-size zero m n = refl
 none-size (suc k) m n = omega (arith, none-size k m (λ i l. n i (omega arith)), lacks m k (n k (lt-suc-self k)))
-
--- a set below 2 ^ k is 0 exactly when its size is
-pub size-zero : (k m : ℕ) → m < 2 ^ k → (size k m ≡ 0) ↔ (m ≡ 0)
-size-zero k m h =
-    ((λ e. empty m (λ i y. size-none k m e i (has-below k m i h y) y)), (λ e. none-size k m (λ i l y. omega (arith, bit-zero i, ap (λ (n : ℕ). bit n i) e))))
 
 -- a size of 1: one of the numbers below k, and only one
 pub size-one : (k m : ℕ) → size k m ≡ 1 → (i : ℕ) × (i < k) × Has m i × ((j : ℕ) → j < k → Has m j → j ≡ i)

@@ -4,10 +4,11 @@ use mathlib.Core.Logic.{_↔_}
 use Prim.Native.Nat.{ℕ, zero, suc, _+_, _*_, _/_, _%_, _≤_, _<_}
 use native.Mathlib.Nat.{mul-pos, le-of-mul-le-mul-left, mul-le-mul-left, mul-le-mul-right, mul-lt-mul-of-pos-right, le-refl, le-of-lt, lt-of-not-le, lt-div-mul-add, div-mul-le-self, div-add-mod', pos-of-ne-zero}
 use native.Mathlib.Omega.{arith}
-use lib.Dec.{ltb, ltb→lt, lt→ltb}
-use Rattle.numbers.specs.Decides.{Decides}
+use lib.Dec.{ltb, ltb→lt, lt→ltb, leb}
+use Rattle.numbers.specs.Decides.{Decides, decides-leb}
 use Rattle.numbers.specs.Sum.{sum}
 use Rattle.numbers.specs.declared.fraction.Fraction.{Fraction}
+use mathlib.Core.Bool.{Bool}
 
 -- a fraction of a whole that is cut at all
 abbrev pub Proper : Fraction → Type 0
@@ -17,16 +18,27 @@ Proper a = 0 < a .under
 abbrev pub AtMost : Fraction → Fraction → Type 0
 AtMost a b = a .over * b .under ≤ b .over * a .under
 
+-- whether it is, as a test
+abbrev pub atMostb : Fraction → Fraction → Bool
+atMostb a b = leb (a .over * b .under) (b .over * a .under)
+
+pub at-most-decides : (a b : Fraction) → Decides (AtMost a b) (atMostb a b)
+at-most-decides a b = decides-leb (a .over * b .under) (b .over * a .under)
+
 -- a and b are the same part
 abbrev pub Same : Fraction → Fraction → Type 0
 Same a b = a .over * b .under ≡ b .over * a .under
+
+-- no part at all
+abbrev pub nothing : Fraction
+nothing = record { over = 0; under = 1 }
 
 -- the sum of two, and of the first n values of a function
 abbrev pub plus : Fraction → Fraction → Fraction
 plus a b = record { over = a .over * b .under + b .over * a .under; under = a .under * b .under }
 
 unfoldable pub sumOf : (ℕ → Fraction) → ℕ → Fraction
-sumOf f zero = record { over = 0; under = 1 }
+sumOf f zero = nothing
 sumOf f (suc n) = plus (sumOf f n) (f n)
 
 pub sum-proper : (f : ℕ → Fraction) (n : ℕ) → ((i : ℕ) → i < n → Proper (f i)) → Proper (sumOf f n)

@@ -1,4 +1,4 @@
--- Model: the lowest number that passes a test, as a search from the front finds it.
+-- The lowest number that passes a test, and its laws.
 use mathlib.Core.Path.{_≡_, refl, sym, _∙_}
 use mathlib.Core.Bool.{Bool, true, false, cond}
 use mathlib.Core.Logic.{_⊎_, inl, inr, ⊎-elim}

@@ -6,8 +6,8 @@ use native.Mathlib.Omega.{arith}
 use Rattle.numbers.specs.Extreme.{Least}
 use mathlib.Core.Bool.{Bool, true, false, cond}
 use native.Mathlib.Decide.{decLt}
-use borrow.Author.Tests.{leb-true, leb-false}
-use lib.Dec.{leb}
+use borrow.Author.Tests.{leb-true, leb-false, eqb-true, eqb-false}
+use lib.Dec.{leb, eqb}
 
 -- n is a / b rounded up: the least number whose b-fold is at least a
 abbrev pub RoundedUp : ℕ → ℕ → ℕ → Type 0
@@ -28,6 +28,17 @@ rounded-more a b pos f =
 
 pub rounded-fits : (a b : ℕ) → zero < b → (a % b ≡ 0 → ⊥) → a / b + 1 ≤ a
 rounded-fits a b pos f = omega (arith, f, le-mul-of-pos-right (a / b) pos, div-add-mod' a b)
+
+-- a / b rounded up: the quotient, and one more where something remains
+abbrev pub roundedOf : ℕ → ℕ → ℕ
+roundedOf a b = cond (eqb (a % b) 0) (a / b) (a / b + 1)
+
+pub rounded-of : (a b : ℕ) → zero < b → RoundedUp a b (roundedOf a b)
+rounded-of a b pos = go (eqb (a % b) 0) refl
+  where
+    go : (x : Bool) → eqb (a % b) 0 ≡ x → RoundedUp a b (cond x (a / b) (a / b + 1))
+    go true e = rounded-exact a b pos (eqb-true _ _ e)
+    go false e = rounded-more a b pos (eqb-false _ _ e)
 
 -- a common factor goes out
 pub rounded-times : (c a b : ℕ) {n : ℕ} → zero < c → RoundedUp a b n → RoundedUp (c * a) (c * b) n

@@ -9,7 +9,7 @@ use borrow.Author.Tests.{eqb-true}
 use lib.Dec.{T, eqb, leb, ltb}
 use Rattle.numbers.specs.Bits.{Has, hasb, has-decides}
 use Rattle.numbers.specs.Decides.{Decides, decides-and, decides-not, decides-eqb, decides-leb, decides-true, decides-false}
-use Rattle.numbers.specs.Fraction.{AtMost, plus, sum-alike, sum-common}
+use Rattle.numbers.specs.Fraction.{AtMost, plus, sum-alike, sum-common, nothing}
 use Rattle.numbers.specs.Lowest.{sought, lowest-is, FirstPasses, NonePasses}
 use Rattle.numbers.specs.Sum.{sum-none}
 use Rattle.numbers.specs.declared.fraction.Fraction.{Fraction}
@@ -22,7 +22,7 @@ use Rattle.graph.specs.Shape.{modeAt, actorAt}
 use Rattle.graph.specs.Proper.{ProperTable}
 use Rattle.change.specs.declared.Running.{Running}
 use Rattle.change.specs.Change.{Changes, Ready, starts-after, actorIn, askedBy as asks, askedOf as asksOf}
-use Rattle.run.specs.Plan.{Acts, startup, nothing, whole}
+use Rattle.run.specs.Plan.{Acts, startup, whole}
 use Rattle.run.specs.Machine.{worst}
 use Rattle.run.proofs.Sound.{Sound, askedOf}
 use Rattle.whole.specs.declared.Whole.{Whole}

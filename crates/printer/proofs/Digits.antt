@@ -1,6 +1,6 @@
 -- Laws of decimal numbers. Assumes nothing.
 use mathlib.Core.Path.{_≡_, refl, ap}
-use mathlib.Core.Bool.{Bool, true, false, cond}
+use mathlib.Core.Bool.{Bool, true, false}
 use mathlib.Core.List.{List, [], _∷_, _++_}
 use Prim.Native.Nat.{ℕ, zero, suc, _+_, _/_, _%_, _^_, _≤_, _<_}
 use native.Mathlib.Nat.{le-refl}
@@ -9,21 +9,7 @@ use lib.Dec.{ltb}
 use lib.ListN.{length, length-append}
 use borrow.Author.Tests.{ltb-true, ltb-false, lt-ltb, le-ltb}
 use Rattle.table.specs.Decimal.{decimalFrom, decimal}
-
--- a number is written by a number of steps that is large enough, whatever it is
-decimal-steps : (k j n : ℕ) → n ≤ k → n ≤ j → decimalFrom k n ≡ decimalFrom j n
-unfolding decimalFrom
-decimal-steps zero zero n h i = refl
-decimal-steps zero (suc j) n h i = rw (lt-ltb n 10 (omega arith))
-decimal-steps (suc k) zero n h i = rw (lt-ltb n 10 (omega arith))
-decimal-steps (suc k) (suc j) n h i = go (ltb n 10) refl (decimal-steps k j (n / 10))
-  where
-    go : (x : Bool) → ltb n 10 ≡ x → (n / 10 ≤ k → n / 10 ≤ j → decimalFrom k (n / 10) ≡ decimalFrom j (n / 10))
-        → cond x ((48 + n) ∷ []) (decimalFrom k (n / 10) ++ ((48 + n % 10) ∷ [])) ≡ cond x ((48 + n) ∷ []) (decimalFrom j (n / 10) ++ ((48 + n % 10) ∷ []))
-    go true e ih = refl
-    go false e ih =
-        let l : 10 ≤ n = ltb-false n 10 e in
-        ap (λ (s : List ℕ). s ++ ((48 + n % 10) ∷ [])) (ih (omega arith) (omega arith))
+use Rattle.table.proofs.Written.{decimal-steps}
 
 pub decimal-one : (n : ℕ) → n < 10 → decimal n ≡ (48 + n) ∷ []
 unfolding decimal decimalFrom

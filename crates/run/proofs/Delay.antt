@@ -9,7 +9,7 @@ use borrow.Author.Tests.{eq-eqb, ne-eqb}
 use lib.Dec.{T, ltb, eqb, nltb→le, eqb→eq, eqb-refl, T-not, not-T}
 use lib.Arith.{le→nltb}
 use Rattle.numbers.specs.Extreme.{least-unique}
-use Rattle.numbers.specs.Reckoned.{roundedOf, rounded-of}
+use Rattle.numbers.specs.Quotient.{roundedOf, rounded-of}
 use Rattle.run.specs.Plan.{Plan, sinkStart}
 use Rattle.run.specs.Machine.{Machine, Request, refusal, leaving, delay, worst, Run, answer}
 use Rattle.run.specs.Demand.{place, sinkSet}

@@ -9,7 +9,7 @@ use native.Mathlib.Omega.{arith}
 use lib.Dec.{T, leb, eqb, leb→le, ltb→lt, eqb→eq}
 use lib.Ieee.Fits.{and-l, and-r}
 use Rattle.numbers.specs.Every.{Every}
-use Rattle.numbers.specs.Reckoned.{roundedOf}
+use Rattle.numbers.specs.Quotient.{roundedOf}
 use Rattle.run.specs.Plan.{Plan, startup}
 use Rattle.run.specs.Machine.{Machine, Request, refusal, leaving, next, Leave, stays, leaves, Visit, visit, Run, begin, answer, run}
 use Rattle.run.specs.Firing.{isOpen, total, openIn}

@@ -8,9 +8,9 @@ use native.Mathlib.Omega.{arith}
 use lib.Dec.{T, leb, ltb, eqb, leb→le, ltb→lt, le→leb, lt→ltb}
 use lib.Ieee.Fits.{and-l, and-r, and-i}
 use Rattle.numbers.specs.Sum.{sum, sum-le, sum-none}
-use Rattle.numbers.specs.Fraction.{Proper, AtMost, Same, plus, sum-proper, sum-common}
+use Rattle.numbers.specs.Fraction.{Proper, AtMost, Same, plus, sum-proper, sum-common, nothing}
 use Rattle.numbers.specs.declared.fraction.Fraction.{Fraction}
-use Rattle.run.specs.Plan.{Plan, Acts, startup, isOn, askedBy, nothing, whole}
+use Rattle.run.specs.Plan.{Plan, Acts, startup, isOn, askedBy, whole}
 use Rattle.run.specs.Machine.{Leave, stays, leaves, Visit}
 use Rattle.run.specs.Firing.{fires, underWay, before, isOpen, tally, asks}
 use Rattle.run.proofs.Sound.{Sound, askedOf}

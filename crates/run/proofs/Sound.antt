@@ -6,9 +6,9 @@ use mathlib.Core.Bool.{Bool, true, _&&_, cond}
 use lib.Dec.{T, leb, ltb}
 use Rattle.numbers.specs.Extreme.{First}
 use Rattle.numbers.specs.Sum.{sum}
-use Rattle.numbers.specs.Fraction.{AtMost, plus, sumOf}
+use Rattle.numbers.specs.Fraction.{AtMost, plus, sumOf, nothing}
 use Rattle.numbers.specs.declared.fraction.Fraction.{Fraction}
-use Rattle.run.specs.Plan.{Plan, Acts, startup, isOn, askedBy, nothing, whole}
+use Rattle.run.specs.Plan.{Plan, Acts, startup, isOn, askedBy, whole}
 
 -- A mode that starts at tick 0 and runs for ever: k firings of actor i have begun by tick x, or ended.
 abbrev pub HaveBegun : Plan → ℕ → ℕ → ℕ → ℕ → Type 0

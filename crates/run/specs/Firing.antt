@@ -4,9 +4,9 @@ use mathlib.Core.Bool.{Bool, true, _&&_, cond}
 use mathlib.Core.List.{List, [], _∷_}
 use lib.Dec.{T, leb, ltb, eqb}
 use Rattle.numbers.specs.Sum.{sum}
-use Rattle.numbers.specs.Fraction.{plus, sumOf}
+use Rattle.numbers.specs.Fraction.{plus, sumOf, nothing}
 use Rattle.numbers.specs.declared.fraction.Fraction.{Fraction}
-use Rattle.run.specs.Plan.{Plan, Acts, startup, isOn, askedBy, nothing}
+use Rattle.run.specs.Plan.{Plan, Acts, startup, isOn, askedBy}
 use Rattle.run.specs.Machine.{Leave, stays, leaves, Visit}
 
 -- firing n of actor i of a visit begins at this tick ..

@@ -3,7 +3,7 @@ use Prim.Native.Nat.{ℕ, _+_, _-_, _*_, _^_, max}
 use mathlib.Core.Bool.{not, _||_, cond}
 use mathlib.Core.List.{List, [], _∷_}
 use lib.Dec.{ltb, eqb}
-use Rattle.numbers.specs.Reckoned.{roundedOf}
+use Rattle.numbers.specs.Quotient.{roundedOf}
 use Rattle.run.specs.Plan.{Plan, sinkStart, startup}
 
 -- a mode, its starting tick, and the tick at which its change ends

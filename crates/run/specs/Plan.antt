@@ -49,9 +49,6 @@ isOn p m proc i = p .active m i && eqb (p .processor i) proc
 abbrev pub askedBy : Plan → ℕ → ℕ → Fraction
 askedBy p m i = record { over = p .wcet m i; under = p .period m i }
 
--- no part of a processor's time, and all of it
-abbrev pub nothing : Fraction
-nothing = record { over = 0; under = 1 }
-
+-- all of a processor's time
 abbrev pub whole : Fraction
 whole = record { over = 1; under = 1 }

@@ -1,6 +1,6 @@
 -- What holds of the starts of every mode whose judgement is sound. Assumes nothing.
 use mathlib.Core.Path.{_≡_, subst}
-use Prim.Native.Nat.{ℕ, _-_, _*_, _≤_, _<_}
+use Prim.Native.Nat.{ℕ, _-_, _*_, _≤_}
 use native.Mathlib.Nat.{mul-le-mul-right}
 use native.Mathlib.Omega.{arith}
 use Rattle.terms.specs.Limits.{ACTORS}
@@ -40,7 +40,3 @@ module _ (m : Mode) (j : Judgement) (proper : ProperMode m) (judged : Judged m j
     starts-within i =
         of-found (λ t. t i .0 ≤ (ACTORS - 1) * MOST-WAIT)
         (omega (arith, found .within i, mul-le-mul-right MOST-WAIT (ready m j proper judged sound .below i)))
-
-    -- where there is no actor the start is 0
-    pub starts-idle : (i : ℕ) → i < ACTORS → (Active m i → ⊥) → s i .0 ≡ 0
-    starts-idle i l n = of-found (λ t. t i .0 ≡ 0) (omega (arith, found .within i, ready m j proper judged sound .idle i l n))

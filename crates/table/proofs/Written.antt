@@ -44,7 +44,7 @@ of-digit d h =
     rw (le-ltb (48 + d) 48 (omega arith), lt-ltb (48 + d) 58 (omega arith), e)
 
 -- a number is written by a number of steps that is large enough, whatever it is
-decimal-steps : (k j n : ℕ) → n ≤ k → n ≤ j → decimalFrom k n ≡ decimalFrom j n
+pub decimal-steps : (k j n : ℕ) → n ≤ k → n ≤ j → decimalFrom k n ≡ decimalFrom j n
 unfolding decimalFrom
 decimal-steps zero zero n h i = refl
 decimal-steps zero (suc j) n h i = rw (lt-ltb n 10 (omega arith))

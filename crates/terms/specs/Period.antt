@@ -4,7 +4,7 @@ use Prim.Native.Nat.{ℕ, suc, _+_, _-_, _*_, _/_, _≤_, _<_}
 use native.Mathlib.Nat.{not-suc-le-zero, not-le-of-lt, le-div-iff-mul-le}
 use native.Mathlib.Omega.{arith}
 use Rattle.numbers.specs.Common.{IsLcm}
-use Rattle.numbers.specs.Extreme.{First, first-unique, least-unique}
+use Rattle.numbers.specs.Extreme.{First, least-unique}
 use Rattle.numbers.specs.Multiples.{lcm-unique}
 use Rattle.numbers.specs.Quotient.{RoundedUp}
 use Rattle.numbers.specs.declared.fraction.Fraction.{Fraction}
@@ -59,9 +59,6 @@ periodOf h q = record { 0 = h .0 / q .0 }
 -- a ticks of b, as a fraction
 abbrev pub partOf : Tick → Tick → Fraction
 partOf a b = record { over = a .0; under = b .0 }
-
-pub firing-unique : (P : ℕ → Type 0) {n m : Firing} → First P (n .0) → First P (m .0) → n ≡ m
-firing-unique P p q = λ i. firing (first-unique P p q i)
 
 -- the counts, where the start lies ahead and where it has passed
 module _ (start period by : Tick) where

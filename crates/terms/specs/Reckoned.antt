@@ -6,7 +6,8 @@ use native.Mathlib.Nat.{lt-of-lt-of-le, le-of-eq}
 use borrow.Author.Tests.{leb-true, leb-false}
 use lib.Dec.{leb}
 use Rattle.numbers.specs.Multiples.{lcm-unique}
-use Rattle.numbers.specs.Reckoned.{gcdOf, gcd-of, lcmOf, lcm-of, roundedOf, rounded-of}
+use Rattle.numbers.specs.Quotient.{roundedOf, rounded-of}
+use Rattle.numbers.specs.Reckoned.{gcdOf, gcd-of, lcmOf, lcm-of}
 use Rattle.units.specs.declared.Tick.{Tick}
 use Rattle.units.specs.declared.Firing.{Firing}
 use Rattle.units.specs.declared.Token.{Token}

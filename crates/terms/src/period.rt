@@ -7,7 +7,7 @@ use units::Firing;
 use units::Tick;
 ghost use mathlib.Core.Path.{_≡_};
 ghost use Prim.Native.Nat.{_+_, _^_, _<_};
-ghost use Rattle.terms.specs.Period.{beginsAt, endsAt, HaveBegun, HaveEnded, CommonWithin, IterationWithin, periodOf, partOf};
+ghost use Rattle.terms.specs.Period.{beginsAt, endsAt, CommonWithin, IterationWithin, periodOf, partOf};
 
 // The tick at which firing n begins.
 pub fn begins(start: Tick, period: Tick, n: Firing) -> Tick
@@ -23,28 +23,6 @@ pub fn ends(start: Tick, period: Tick, n: Firing) -> Tick
     ensures { λ r. ⌜ r ≡ endsAt start period n ⌝ }
 {
     Tick(start.0 + n.0 * period.0 + period.0)
-}
-
-// How many firings have begun by a tick, that tick included.
-pub fn begun(start: Tick, period: Tick, by: Tick) -> Firing
-    requires { ⌜ (0 < period .0) × (by .0 + 1 < 2 ^ 64) ⌝ }
-    ensures { λ r. ⌜ HaveBegun start period by r ⌝ }
-{
-    if by.0 < start.0 {
-        return Firing(0);
-    }
-    Firing((by.0 - start.0) / period.0 + 1)
-}
-
-// How many firings have ended by a tick, that tick included.
-pub fn ended(start: Tick, period: Tick, by: Tick) -> Firing
-    requires { ⌜ 0 < period .0 ⌝ }
-    ensures { λ r. ⌜ HaveEnded start period by r ⌝ }
-{
-    if by.0 < start.0 {
-        return Firing(0);
-    }
-    Firing((by.0 - start.0) / period.0)
 }
 
 // A number of firings under a limit: its value, or that it is above.

@@ -12,7 +12,6 @@ use lib.ListN.{length, getD, take, length-replicate, List·getD-eq-default}
 use lib.Seq.{length-take-le, getD-take}
 use Rattle.numbers.specs.Bits.{hasb, has-decides}
 use Rattle.numbers.specs.Decides.{decides-true}
-use Rattle.numbers.specs.Extreme.{Least}
 use Rattle.numbers.specs.Sum.{sum-most}
 use Rattle.numbers.specs.Tab.{length-tab, tab-at, getD-replicated}
 use Rattle.terms.specs.Limits.{MODES, ACTORS, CHANNELS, PHASES, MOST-RATE, ITERATION-LIMIT}
@@ -30,20 +29,18 @@ use Rattle.graph.specs.Proper.{ProperMode, ProperRates, ProperTable}
 use Rattle.graph.specs.Balance.{firingsOf}
 use Rattle.graph.specs.Judged.{ofActors}
 use Rattle.graph.specs.Laws.{iteration-pos, firings-divide}
-use Rattle.channel.specs.declared.End.{End}
-use Rattle.channel.specs.Flow.{Fed, Paced}
+use Rattle.channel.specs.Flow.{Paced}
 use Rattle.channel.specs.Bounds.{MOST-SIZE, size-within}
-use Rattle.channel.specs.Laws.{cycle-p, cycle-c, period-p, start-least, start-within, fed-later}
-use Rattle.schedule.specs.Starts.{producerOf, consumerOf, Timely, Starts}
+use Rattle.schedule.specs.Starts.{producerOf, consumerOf}
 use Rattle.schedule.specs.Scheduled.{ofChannels, tokensOn, Sizes}
-use Rattle.schedule.specs.Reached.{MOST-WAIT, Ready}
-use Rattle.schedule.proofs.Sound.{judged-ready, channel-paced}
+use Rattle.schedule.proofs.Sound.{channel-paced}
 use Rattle.change.specs.declared.Timing.{Timing}
 use Rattle.whole.specs.declared.Part.{Part}
 use Rattle.whole.specs.declared.Whole.{Whole}
 use Rattle.whole.specs.Whole.{noTiming, emptyPart, partAt, changeAt, Listed, ModePlanned, IsPart, Leads, IsChange, Planned}
 use Rattle.whole.proofs.Told.{judged-sound, scheduled-times}
 use Rattle.whole.proofs.Unique.{listed-or-not, leads-or-not}
+use Rattle.schedule.proofs.Laws.{starts-within}
 
 -- starts are below this, in ticks
 abbrev pub START-LIMIT : ℕ
@@ -98,24 +95,6 @@ empty-small =
       tokens = λ k. rw (getD-replicated CHANNELS k (token 0)) zero-le;
     }
 
--- the starts of a mode are not far
-module _ (m : Mode) (ps : List Tick) (ds : List ℕ) (ready : Ready m ps ds) (s : ℕ → Tick) (starts : Starts m ps s) where
-  -- a table of starts that grow with the depth
-  abbrev by-depth : ℕ → Tick
-  by-depth i = tick (getD ds i 0 * MOST-WAIT)
-
-  by-depth-timely : Timely m ps by-depth
-  by-depth-timely k h = go (producerOf m ps k) (consumerOf m ps k) (ready .paced k h) (by-depth (channelAt m k .from)) _ (start-least _ _ (ready .paced k h) _)
-      (omega (arith, mul-le-mul-right MOST-WAIT (ready .deeper k h)))
-    where
-      go : (p c : End) → Paced p c → (sp : Tick) (r : ℕ) → Least (λ n. Fed p sp c (tick n)) r → sp .0 + MOST-WAIT ≤ by-depth (channelAt m k .to) .0
-          → Fed p sp c (by-depth (channelAt m k .to))
-      go p c w sp r first h =
-          fed-later p c (period-p p c w) sp (tick r) _ (omega (arith, h, start-within p c w sp r first, cycle-p p c w, cycle-c p c w)) (first .holds)
-
-  pub start-small : (i : ℕ) → s i .0 < START-LIMIT
-  start-small i = omega (arith, starts .least by-depth by-depth-timely i, mul-le-mul-right MOST-WAIT (ready .below i))
-
 -- what is small for each active actor is small at every place
 small-actors : {A : Type 0} (P : A → Type 0) (m : Mode) (f : ℕ → A) (z : A) → P z → ((i : ℕ) → Active m i → P (f i)) → (i : ℕ) → P (getD (ofActors m f z) i z)
 small-actors P m f z o h = tab-at P ACTORS _ z o (λ i l. go i l (hasb (m .active) i) refl)
@@ -160,11 +139,10 @@ mode-small m p proper w =
     let j = w .judgement in
     let (x, acyclic, n, bears) = judged-sound (w .judged) (w .sound) in
     let (s, starts, never, times) = scheduled-times (w .scheduled) (w .on-time) in
-    let ready = judged-ready m j proper x acyclic n in
     let pos = iteration-pos m proper x (n .smallest .balances .some) (n .iteration) in
     let few : (i : ℕ) → Active m i → firingsOf m x i .0 ≤ ITERATION-LIMIT
     = λ i a. le-trans (le-of-dvd pos (firings-divide m proper x (n .smallest .balances) (j .iteration) (n .iteration) i a)) (n .within) in
-    let starts-small = start-small m (j .periods) (j .depths) ready s starts in
+    let starts-small : (i : ℕ) → s i .0 < START-LIMIT = λ i. omega (arith, starts-within m j proper (w .judged) (w .sound) s starts i) in
     let firings-small : (i : ℕ) → getD (j .firings) i (firing 0) .0 ≤ ITERATION-LIMIT
     = λ i. rw (n .firings) (small-actors (λ (q : Firing). q .0 ≤ ITERATION-LIMIT) m (firingsOf m x) (firing 0) zero-le few i) in
     subst SmallPart (sym (w .part))

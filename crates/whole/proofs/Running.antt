@@ -11,7 +11,7 @@ use lib.Dec.{eqb}
 use lib.ListN.{getD}
 use Rattle.numbers.specs.Bits.{Has, bit, hasb, has-decides, has-or-not, has-below, some-has, bit-zero}
 use Rattle.numbers.specs.Decides.{decides-true}
-use Rattle.numbers.specs.Fraction.{AtMost, sum-alike}
+use Rattle.numbers.specs.Fraction.{AtMost, sum-alike, nothing}
 use Rattle.numbers.specs.Tab.{length-tab, getD-tab}
 use Rattle.terms.specs.Limits.{MODES, ACTORS, MOST-WCET, LOAD-LIMIT}
 use Rattle.units.specs.declared.Tick.{Tick}
@@ -23,7 +23,7 @@ use Rattle.graph.specs.declared.shape.Table.{Table}
 use Rattle.graph.specs.Shape.{modeAt, actorAt, Active}
 use Rattle.graph.specs.Proper.{ProperMode, ProperTable}
 use Rattle.graph.specs.Balance.{firingsOf}
-use Rattle.graph.specs.Load.{Overloaded, askedBy, nothing, loadOf}
+use Rattle.graph.specs.Load.{Overloaded, askedBy, loadOf}
 use Rattle.graph.specs.Judged.{ofActors}
 use Rattle.graph.specs.Laws.{iteration-pos, period-whole, period-fits}
 use Rattle.schedule.specs.Starts.{Late}

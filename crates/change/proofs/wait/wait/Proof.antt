@@ -6,10 +6,9 @@ use Prim.Native.Nat.{_*_, _≤_}
 use native.Mathlib.Nat.{mul-le-mul, mul-le-mul-left, mul-le-mul-right, mul-pos}
 use native.Mathlib.Omega.{arith}
 use Rattle.numbers.specs.Decides.{Decides, leb-is}
-use Rattle.numbers.specs.Fraction.{AtMost, plus}
+use Rattle.numbers.specs.Fraction.{AtMost, plus, atMostb}
 use Rattle.numbers.specs.declared.fraction.Fraction.{Fraction}
 use Rattle.terms.specs.Limits.{ITERATION-LIMIT, LOAD-LIMIT}
-use Rattle.change.specs.Waits.{atMostb}
 use Rattle.change.proofs.wait.wait.Statement.{statement}
 use Rattle.change.proofs.wait.wait.Tie as tie
 
