@@ -1,0 +1,224 @@
+-- The three demands hold. Assumes nothing.
+use mathlib.Core.Path.{_≡_, refl, sym, ap, subst, _∙_}
+use mathlib.Core.Bool.{Bool, true, false, cond, not, _||_}
+use mathlib.Core.Logic.{_⊎_, inl, inr}
+use mathlib.Core.List.{List}
+use Prim.Native.Nat.{ℕ, suc, _^_, _≤_}
+use native.Mathlib.Omega.{arith}
+use lib.Dec.{T, ltb, eqb}
+use lib.ListN.{length, getD}
+use Rattle.units.specs.declared.Tick.{Tick}
+use Rattle.units.specs.declared.Firing.{Firing}
+use Rattle.units.specs.Ticks.{tick}
+use Rattle.terms.specs.Period.{firing, periodOf}
+use Rattle.terms.specs.declared.refusal.Refusal.{Refusal}
+use Rattle.graph.specs.declared.shape.Mode.{Mode}
+use Rattle.graph.specs.declared.shape.Table.{Table}
+use Rattle.graph.specs.Shape.{Active, emptyTable}
+use Rattle.graph.specs.Balance.{firingsOf}
+use Rattle.table.specs.declared.Answer.{Answer as ReadAnswer}
+use Rattle.table.specs.declared.Answer.the-variants.{Read, Refused as NotRead}
+use Rattle.table.specs.declared.Reading.{Reading}
+use Rattle.table.specs.Rows.{Row}
+use Rattle.table.specs.Told.{Outcome as Rows, rows, refused as rows-refused, After, Of, readingOf, Told}
+use Rattle.whole.specs.declared.Part.{Part}
+use Rattle.whole.specs.declared.Whole.{Whole}
+use Rattle.whole.specs.declared.Outcome.{Outcome}
+use Rattle.whole.specs.declared.Answer.{Answer as WholeAnswer}
+use Rattle.whole.specs.declared.Answer.the-variants.{Planned as IsPlanned, Refused as NotPlanned}
+use Rattle.whole.specs.Whole.{emptyWhole, ModeRefused, ModePlanned, Planned, Planning}
+use Rattle.schedule.proofs.Sound.{at-actor}
+use Rattle.whole.proofs.Told.{judged-sound, scheduled-times}
+use Rattle.layout.specs.Words.{WORDS, wordsOf}
+use Rattle.run.specs.Plan.{Plan}
+use Rattle.run.specs.Machine as Run
+use Rattle.planned.specs.Plan.{isListed, planOf}
+use Rattle.planner.specs.declared.Answer.{Answer as TableAnswer}
+use Rattle.planner.specs.declared.Answer.the-variants as Table′
+use Rattle.planner.specs.Plans.{Plans, Reads, Leaves}
+use Rattle.planner.proofs.Answering.{plans-unique}
+use Rattle.machine.specs.declared.Machine.{Machine}
+use Rattle.machine.specs.declared.Beginning.{Beginning}
+use Rattle.machine.specs.declared.Answer.{Answer}
+use Rattle.machine.specs.Answers.{seen, asking, machine, Meant, Begins, refusing, Answers}
+use Rattle.machine.proofs.Unique.{begins-unique, answers-unique}
+use Rattle.machine.proofs.Steps.{listed-zero}
+use Rattle.machine.proofs.Demand as Machine′
+use Rattle.demands.specs.Demands.{OnTable, OnStart, OnRequest, Demand1, ModeRight, Right, TableRefused, Demand2, Runs, Demand3}
+
+-- the numbers of the refusals of rows, and of modes
+abbrev OfRow : Rows → Type 0
+OfRow (rows rs) = Unit {0}
+OfRow (rows-refused n k) = (1 ≤ n) × (n ≤ 5)
+
+after-row : {earlier : List Row} {text : List ℕ} {o : Rows} → After earlier text o → OfRow o
+after-row After.done = tt
+after-row (After.refused1 n) = (omega arith, omega arith)
+after-row (After.refused2 b l n) = (omega arith, omega arith)
+after-row (After.refused3 r i b p) = (omega arith, omega arith)
+after-row (After.refused4 r i b n p) = (omega arith, omega arith)
+after-row (After.refused5 r i b n m p) = (omega arith, omega arith)
+after-row (After.next r i b p a) = after-row a
+
+of-row : {text : List ℕ} {o : Rows} → Of text o → OfRow o
+of-row (Of.wrong-length l) = (omega arith, omega arith)
+of-row (Of.right-length l m a) = after-row a
+
+-- the number of a reader's refusal, and 1 where there is none
+abbrev readNumber : ReadAnswer → ℕ
+readNumber Read = 1
+readNumber (NotRead r) = r .number
+
+told-number : {text : List ℕ} {r : Refusal} → Told text (record { answer = NotRead r; table = emptyTable }) → (1 ≤ r .number) × (r .number ≤ 10)
+told-number {text} {r} (o, of, e) = go o of (ap (λ (x : Reading). readNumber (x .answer)) e)
+  where
+    go : (o : Rows) → Of text o → r .number ≡ readNumber (readingOf o .answer) → (1 ≤ r .number) × (r .number ≤ 10)
+    go (rows rs) of e = (omega (arith, e), omega (arith, e))
+    go (rows-refused n k) of e = let (a, b) = of-row of in (omega (arith, a, e), omega (arith, b, e))
+
+mode-number : {m : Mode} {n : ℕ} {r : Refusal} → ModeRefused m n r → (1 ≤ r .number) × (r .number ≤ 10)
+mode-number (ModeRefused.by-6 j) = (omega arith, omega arith)
+mode-number (ModeRefused.by-7 j) = (omega arith, omega arith)
+mode-number (ModeRefused.by-8 j) = (omega arith, omega arith)
+mode-number (ModeRefused.by-9 j) = (omega arith, omega arith)
+mode-number (ModeRefused.by-10 j s l) = (omega arith, omega arith)
+
+-- the refusal of a table's modes is that of one mode
+abbrev wholeRefusal : WholeAnswer → Refusal → Refusal
+wholeRefusal IsPlanned r = r
+wholeRefusal (NotPlanned s) r = s
+
+mode-refused : {text : List ℕ} {t : Table} {x : Outcome} {r : Refusal} → Reads text t → Planning t x → x .answer ≡ NotPlanned r
+    → TableRefused text r × ((1 ≤ r .number) × (r .number ≤ 10))
+mode-refused {text} {r = r} reads (Planning.refused {r = s} listed lower refused) e =
+    subst (λ (r : Refusal). TableRefused text r × ((1 ≤ r .number) × (r .number ≤ 10))) (ap (λ (a : WholeAnswer). wholeRefusal a s) e)
+    (TableRefused.at-mode reads listed lower refused, mode-number refused)
+mode-refused reads (Planning.planned p) e = let z : _≡_ {A = ℕ} 0 1 = cc in absurd (omega arith)
+
+on-table : {text before after : List ℕ} {a : TableAnswer} → Plans text before a after → OnTable before a after
+on-table (Plans.wrong-length n) = OnTable.refused (inr refl)
+on-table (Plans.not-read l told) = OnTable.refused (inl (told-number told))
+on-table (Plans.not-planned l reads p) = OnTable.refused (inl (mode-refused reads p refl .1))
+on-table (Plans.accepted l reads p) = OnTable.accepted
+
+on-start : {words : List ℕ} {mode : ℕ} {b : Beginning} → Begins words mode b → OnStart b
+on-start (Begins.not-stored n) = OnStart.refused (inr refl)
+on-start (Begins.not-listed l m n) = OnStart.refused (inl refl)
+on-start (Begins.begun l m h) = OnStart.begun
+
+-- a request is refused by a number from 11 to 16, or not at all
+abbrev OfRequest : ℕ → Type 0
+OfRequest n = (n ≡ 0) ⊎ ((11 ≤ n) × (n ≤ 16))
+
+either : (b : Bool) (n k : ℕ) → 11 ≤ n → n ≤ 16 → OfRequest k → OfRequest (cond b n k)
+either true n k p q r = inr (p, q)
+either false n k p q r = r
+
+of-request : (p : Plan) (m : Run.Machine) (r : Run.Request) → OfRequest (Run.refusal p m r)
+unfolding Run.refusal
+of-request p m r =
+    either (not (p .listed (m .mode)) || ltb (m .ended) (m .started)) 16 _ (omega arith) (omega arith)
+    (either (not (p .listed (r .mode))) 11 _ (omega arith) (omega arith)
+    (either (eqb (r .mode) (m .mode)) 12 _ (omega arith) (omega arith)
+    (either (ltb (2 ^ 62) (r .tick)) 13 _ (omega arith) (omega arith)
+    (either (ltb (r .tick) (m .ended)) 14 _ (omega arith) (omega arith) (inl refl)))))
+
+on-request : {words : List ℕ} {m : Machine} {mode : ℕ} {clock : Tick} {a : Answer} → Answers words m mode clock a → OnRequest m a
+on-request (Answers.not-stored n) = OnRequest.refused {n = 15} (omega arith) (omega arith)
+on-request {m = m} {mode} {clock} (Answers.refused {t} {w} {n} l e) = go (of-request (planOf t w) (seen m) (asking mode clock))
+  where
+    go : OfRequest (Run.refusal (planOf t w) (seen m) (asking mode clock)) → OnRequest m (refusing m (suc n))
+    go (inl z) = absurd (omega (arith, e, z))
+    go (inr (a, b)) = OnRequest.refused {n = suc n} (omega (arith, a, e)) (omega (arith, b, e))
+on-request (Answers.accepted l e) = OnRequest.accepted
+
+pub demand-1 : Demand1
+demand-1 =
+    record {
+      table = on-table;
+      start = on-start;
+      request = on-request;
+      one-table = plans-unique;
+      one-start = begins-unique;
+      one-request = answers-unique;
+    }
+
+mode-right : {m : Mode} {p : Part} → ModePlanned m p → ModeRight m p
+mode-right {m} {p} q =
+    let (x, n, numbers, light) = judged-sound (q .judged) (q .sound) in
+    let (s, starts, prompt, times) = scheduled-times (q .scheduled) (q .on-time) in
+    subst (ModeRight m) (sym (q .part))
+    (record {
+      counts = x;
+      smallest = numbers .smallest;
+      firings = λ i a. ap (λ (l : List Firing). getD l i (firing 0)) (numbers .firings) ∙ at-actor m (firingsOf m x) (firing 0) i a;
+      iteration = numbers .iteration;
+      within = numbers .within;
+      periods = λ i a. ap (λ (l : List Tick). getD l i (tick 0)) (numbers .periods) ∙ at-actor m (λ i. periodOf _ (firingsOf m x i)) (tick 0) i a;
+      bearable = light;
+      begin = s;
+      least = starts;
+      starts = λ i a. ap (λ (l : List Tick). getD l i (tick 0)) (times .starts) ∙ at-actor m s (tick 0) i a;
+      sizes = times .sizes .size;
+    })
+
+right : {t : Table} {w : Whole} → Planned t w → Right t w
+right p =
+    record {
+      modes = λ k l. mode-right (p .part k (l .0) .listed l);
+      changes = λ k l h. p .change k l (h .0 .0) (h .1 .0) .leads h;
+    }
+
+left-right : {text before words : List ℕ} {a : TableAnswer} → Plans text before a words → a ≡ Table′.Accepted
+    → (t : Table) × (w : Whole) × Reads text t × (words ≡ wordsOf t w) × Right t w
+left-right (Plans.wrong-length n) e = let z : _≡_ {A = ℕ} 0 1 = cc in absurd (omega arith)
+left-right (Plans.not-read l r) e = let z : _≡_ {A = ℕ} 0 1 = cc in absurd (omega arith)
+left-right (Plans.not-planned l r p) e = let z : _≡_ {A = ℕ} 0 1 = cc in absurd (omega arith)
+left-right (Plans.accepted {t} {w} l r p) e = (t, w, r, refl, right p)
+
+refuses : {text before : List ℕ} {r : Refusal} → length before ≡ WORDS → TableRefused text r → Plans text before (Table′.Refused r) before
+refuses l (TableRefused.at-row told) = Plans.not-read l told
+refuses l (TableRefused.at-mode reads listed lower refused) = Plans.not-planned l reads (Planning.refused listed lower refused)
+
+abbrev refusalOr : Refusal → TableAnswer → Refusal
+refusalOr r Table′.Accepted = r
+refusalOr r (Table′.Refused s) = s
+
+only-then : {text before after : List ℕ} {a : TableAnswer} {r : Refusal} → length before ≡ WORDS → Plans text before a after → a ≡ Table′.Refused r → TableRefused text r
+only-then l (Plans.wrong-length n) e = absurd (n l)
+only-then {text} l (Plans.not-read {r = s} k told) e = subst (TableRefused text) (ap (refusalOr s) e) (TableRefused.at-row told)
+only-then {text} l (Plans.not-planned {r = s} k reads p) e = subst (TableRefused text) (ap (refusalOr s) e) (mode-refused reads p refl .0)
+only-then l (Plans.accepted k r p) e = let z : _≡_ {A = ℕ} 0 1 = cc in absurd (omega arith)
+
+pub demand-2 : Demand2
+demand-2 =
+    record {
+      right = λ p. left-right p refl;
+      refused = refuses;
+      only-then = λ l p. only-then l p refl;
+      no-room = Plans.wrong-length;
+      start-15 = Begins.not-stored;
+      request-15 = λ n a. answers-unique a (Answers.not-stored n);
+      request-refused = λ l a e. answers-unique a (Answers.refused l e);
+      delay = λ l a e. ap (λ (x : Answer). x .reply) (answers-unique a (Answers.accepted l e));
+    }
+
+-- the mode with a number that is listed
+meant : (t : Table) (k : ℕ) → T (isListed t k) → Meant t k k
+meant t k h = record { lowest = λ e. absurd (subst T (listed-zero t k e) h); named = λ n. refl }
+
+pub demand-3 : Demand3
+demand-3 text before words p =
+    let (t, w, l, d) = Machine′.closed text before words p in (
+      t,
+      w,
+      l,
+      record {
+        holds = d;
+        machine-runs = Machine′.begun-run l;
+        never-above = Machine′.never-above l;
+        reached = λ o n ho hn other.
+            let (clock, a, answers, told) = Machine′.reached l o n ho hn other in
+            (machine (Run.begin (planOf t w) o .now), clock, a, Begins.begun l (meant t o ho) ho, answers, told);
+      },
+    )

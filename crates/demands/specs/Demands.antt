@@ -1,0 +1,138 @@
+-- The three demands, over what the public functions promise: `plan` promises `Plans`, `start` promises `Begins`, `request` promises `Answers`, whatever they are
+-- given (proofs/Functions.antt), and each of them ends with an answer.
+use mathlib.Core.Path.{_≡_}
+use mathlib.Core.Logic.{_⊎_, _≢_}
+use mathlib.Core.List.{List}
+use Prim.Native.Nat.{ℕ, suc, _-_, _≤_, _<_}
+use lib.Dec.{T}
+use lib.ListN.{length, getD}
+use Rattle.units.specs.declared.Tick.{Tick}
+use Rattle.units.specs.Ticks.{tick}
+use Rattle.units.specs.Tokens.{token}
+use Rattle.terms.specs.Limits.{ITERATION-LIMIT}
+use Rattle.terms.specs.Period.{firing, periodOf}
+use Rattle.terms.specs.declared.refusal.Refusal.{Refusal}
+use Rattle.graph.specs.declared.shape.Mode.{Mode}
+use Rattle.graph.specs.declared.shape.Table.{Table}
+use Rattle.graph.specs.Shape.{Active, modeAt, emptyTable}
+use Rattle.graph.specs.Balance.{Smallest, Iteration, firingsOf}
+use Rattle.graph.specs.Load.{Overloaded}
+use Rattle.table.specs.declared.Answer.the-variants.{Refused as NotRead}
+use Rattle.table.specs.Told.{Told}
+use Rattle.schedule.specs.Starts.{Starts}
+use Rattle.schedule.specs.Scheduled.{SizeOn}
+use Rattle.change.specs.Change.{Changes}
+use Rattle.whole.specs.declared.Part.{Part}
+use Rattle.whole.specs.declared.Whole.{Whole}
+use Rattle.whole.specs.Whole.{partAt, changeAt, runningOf, Listed, Leads, ModePlanned, ModeRefused}
+use Rattle.layout.specs.Words.{WORDS, wordsOf}
+use Rattle.run.specs.Machine as Run
+use Rattle.run.specs.Demand as Run′
+use Rattle.planned.specs.Plan.{isListed, planOf}
+use Rattle.planner.specs.declared.Answer as planner
+use Rattle.planner.specs.declared.Answer.the-variants as Table′
+use Rattle.planner.specs.Plans.{Plans, Reads, Leaves, Stored, noPlan}
+use Rattle.machine.specs.declared.Machine.{Machine}
+use Rattle.machine.specs.declared.Beginning.{Beginning}
+use Rattle.machine.specs.declared.Beginning.the-variants as Start′
+use Rattle.machine.specs.declared.Reply.the-variants as Request′
+use Rattle.machine.specs.declared.Answer.{Answer}
+use Rattle.machine.specs.Answers.{seen, asking, refusalOf, Begins, Answers, Follows}
+
+-- ── Demand 1 ──
+-- "Every table and every request gets an answer or a refusal by number, with nothing left for the caller to check first. A refused table leaves the
+-- caller's plan as it stood; a refused request leaves the machine as it stood."
+
+-- an answer to a table: it is accepted; or refused by a number that document 01 has for tables, and the caller's plan is as it stood
+pub data OnTable (before : List ℕ) : planner.Answer → List ℕ → Type 0 where
+  accepted : {after : List ℕ} → OnTable before Table′.Accepted after
+  refused : {r : Refusal} → ((1 ≤ r .number) × (r .number ≤ 10)) ⊎ (r .number ≡ 15) → OnTable before (Table′.Refused r) before
+
+-- an answer to a start: a machine; or a refusal, and no machine
+pub data OnStart : Beginning → Type 0 where
+  begun : {m : Machine} → OnStart (Start′.Begun m)
+  refused : {n : ℕ} → (n ≡ 11) ⊎ (n ≡ 15) → OnStart (Start′.Refused (refusalOf n))
+
+-- an answer to a request: a delay; or a refusal, and the machine as it stood
+pub data OnRequest (m : Machine) : Answer → Type 0 where
+  accepted : {d : Tick} {n : Machine} → OnRequest m (record { reply = Request′.Accepted d; machine = n })
+  refused : {n : ℕ} → 11 ≤ n → n ≤ 16 → OnRequest m (record { reply = Request′.Refused (refusalOf n); machine = m })
+
+pub record Demand1 : Type 0 where
+  -- whatever is answered to a table, a start or a request is such an answer ..
+  pub table : {text before after : List ℕ} {a : planner.Answer} → Plans text before a after → OnTable before a after
+  pub start : {words : List ℕ} {mode : ℕ} {b : Beginning} → Begins words mode b → OnStart b
+  pub request : {words : List ℕ} {m : Machine} {mode : ℕ} {clock : Tick} {a : Answer} → Answers words m mode clock a → OnRequest m a
+  -- .. and there is one only
+  pub one-table : {text before k j : List ℕ} {x y : planner.Answer} → Plans text before x k → Plans text before y j → (x ≡ y) × (k ≡ j)
+  pub one-start : {words : List ℕ} {mode : ℕ} {x y : Beginning} → Begins words mode x → Begins words mode y → x ≡ y
+  pub one-request : {words : List ℕ} {m : Machine} {mode : ℕ} {clock : Tick} {x y : Answer} → Answers words m mode clock x → Answers words m mode clock y → x ≡ y
+
+-- ── Demand 2 ──
+-- "Firing counts, periods, starts, sizes, offsets, delays are those of document 01's rules; refusals are given exactly when those rules say so."
+
+-- what is planned of a mode is what the rules say: with the smallest cycle counts that balance it, and the least starts of its actors
+pub record ModeRight (m : Mode) (p : Part) : Type 0 where
+  pub counts : ℕ → ℕ
+  pub smallest : Smallest m counts
+  pub firings : (i : ℕ) → Active m i → getD (p .firings) i (firing 0) ≡ firingsOf m counts i
+  pub iteration : Iteration m counts (p .iteration)
+  pub within : p .iteration .0 ≤ ITERATION-LIMIT
+  pub periods : (i : ℕ) → Active m i → getD (p .periods) i (tick 0) ≡ periodOf (p .iteration) (firingsOf m counts i)
+  pub bearable : (q : ℕ) → Overloaded m counts (p .iteration) q → ⊥
+  pub begin : ℕ → Tick
+  pub least : Starts m (p .periods) begin
+  pub starts : (i : ℕ) → Active m i → getD (p .starts) i (tick 0) ≡ begin i
+  pub sizes : (c : ℕ) → c < m .count → SizeOn m (p .periods) begin c (getD (p .sizes) c (token 0))
+
+-- and of every mode and every change of a table
+pub record Right (t : Table) (w : Whole) : Type 0 where
+  pub modes : (k : ℕ) → Listed t k → ModeRight (modeAt t k) (partAt w k)
+  pub changes : (k l : ℕ) → Leads t k l → Changes (runningOf (modeAt t k) (partAt w k)) (runningOf (modeAt t l) (partAt w l)) (changeAt w k l)
+
+-- when a table is refused, in a buffer of the one length: the first refusal of its length and its rows; else that of its lowest mode that is refused
+pub data TableRefused (text : List ℕ) : Refusal → Type 0 where
+  at-row : {r : Refusal} → Told text (record { answer = NotRead r; table = emptyTable }) → TableRefused text r
+  at-mode : {t : Table} {k : ℕ} {r : Refusal} → Reads text t → Listed t k → ((l : ℕ) → l < k → Listed t l → (p : Part) × ModePlanned (modeAt t l) p)
+      → ModeRefused (modeAt t k) (suc k) r → TableRefused text r
+
+pub record Demand2 : Type 0 where
+  -- an accepted table leaves a plan whose numbers are right
+  pub right : {text before words : List ℕ} → Plans text before Table′.Accepted words
+      → (t : Table) × (w : Whole) × Reads text t × (words ≡ wordsOf t w) × Right t w
+  -- a table is refused when the rules say so, and only then; 15 where the buffer has another length
+  pub refused : {text before : List ℕ} {r : Refusal} → length before ≡ WORDS → TableRefused text r → Plans text before (Table′.Refused r) before
+  pub only-then : {text before after : List ℕ} {r : Refusal} → length before ≡ WORDS → Plans text before (Table′.Refused r) after → TableRefused text r
+  pub no-room : {text before : List ℕ} → (length before ≡ WORDS → ⊥) → Plans text before (Table′.Refused noPlan) before
+  -- a start is refused by 15 where no accepted table leaves the words, and a request too
+  pub start-15 : {words : List ℕ} {mode : ℕ} → (Stored words → ⊥) → Begins words mode (Start′.Refused (refusalOf 15))
+  pub request-15 : {words : List ℕ} {m : Machine} {mode : ℕ} {clock : Tick} {a : Answer} → (Stored words → ⊥) → Answers words m mode clock a
+      → a ≡ record { reply = Request′.Refused (refusalOf 15); machine = m }
+  -- else a request is refused, or told its delay, by the rules of the table's plan
+  pub request-refused : {t : Table} {w : Whole} {words : List ℕ} {m : Machine} {mode n : ℕ} {clock : Tick} {a : Answer} → Leaves t w words → Answers words m mode clock a
+      → Run.refusal (planOf t w) (seen m) (asking mode clock) ≡ suc n → a ≡ record { reply = Request′.Refused (refusalOf (suc n)); machine = m }
+  pub delay : {t : Table} {w : Whole} {words : List ℕ} {m : Machine} {mode : ℕ} {clock : Tick} {a : Answer} → Leaves t w words → Answers words m mode clock a
+      → Run.refusal (planOf t w) (seen m) (asking mode clock) ≡ 0 → a .reply ≡ Request′.Accepted (tick (Run.delay (planOf t w) (seen m) (asking mode clock)))
+
+-- ── Demand 3 ──
+-- "For any accepted table, starting mode and request list: if each firing ends within its period, no stage takes a token that isn't there, no buffer holds
+-- more than its size, no processor is asked for more than its whole time, an ended mode leaves its buffers empty; the delay never exceeds the printed worst
+-- case, some request reaches it, and it depends only on the two modes and the request's place in the old iteration."
+
+-- of the table t and its plan w that leave the words
+pub record Runs (t : Table) (w : Whole) (words : List ℕ) : Type 0 where
+  -- of every run of the plan all of this holds (`Demand3` of run's specs/Demand.antt) ..
+  pub holds : Run′.Demand3 (planOf t w)
+  -- .. and a machine that begins, and answers any requests one after the other, is the machine of such a run
+  pub machine-runs : {mode : ℕ} {m n : Machine} {rs : List Run.Request} → Begins words mode (Start′.Begun m) → Follows words m rs n
+      → (k : ℕ) × T (isListed t k) × (seen n ≡ Run.run (planOf t w) (Run.begin (planOf t w) k) rs .now)
+  -- no request is told more than the worst delay that is printed, and some request is told that
+  pub never-above : {m : Machine} {a : Answer} {d : Tick} (mode : ℕ) (clock : Tick) → Answers words m mode clock a → a .reply ≡ Request′.Accepted d
+      → d .0 ≤ changeAt w (m .mode - 1) (mode - 1) .worst .0
+  pub reached : (o l : ℕ) → T (isListed t o) → T (isListed t l) → l ≢ o
+      → (m : Machine) × (clock : Tick) × (a : Answer) × Begins words o (Start′.Begun m) × Answers words m l clock a
+      × (a .reply ≡ Request′.Accepted (changeAt w (o - 1) (l - 1) .worst))
+
+abbrev pub Demand3 : Type 0
+Demand3 = (text before words : List ℕ) → Plans text before Table′.Accepted words
+    → (t : Table) × (w : Whole) × Leaves t w words × Runs t w words
