@@ -1,4 +1,3 @@
 -- What the proofs lean on.
-mod Reading
 mod Calling
 mod Settled

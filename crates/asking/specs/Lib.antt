@@ -1,3 +1,2 @@
 -- What a call is.
-pub mod Argument
 pub mod Call

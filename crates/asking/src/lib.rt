@@ -1,5 +1,4 @@
-// Calls: what their arguments are, and what is printed for them.
-pub mod argument;
+// Calls: what is printed for their arguments.
 mod session;
 
 use layout::WORDS;

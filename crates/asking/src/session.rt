@@ -1,8 +1,8 @@
 // A machine on the words of a plan, and its answers to the requests among the arguments.
-use crate::argument::Number;
-use crate::argument::Request;
-use crate::argument::number_of;
-use crate::argument::request_of;
+use argument::Number;
+use argument::Request;
+use argument::number_of;
+use argument::request_of;
 use libc::STDOUT_FILENO;
 use machine::Beginning;
 use machine::Machine;

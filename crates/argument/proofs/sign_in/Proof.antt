@@ -5,10 +5,10 @@ use Prim.Native.Nat.{_+_, _-_}
 use native.Mathlib.Omega.{arith}
 use lib.ListN.{length, drop}
 use denote.Ref.{now}
-use Rattle.asking.specs.Argument.{signIn}
-use Rattle.asking.proofs.Reading.{sign-none, sign-stop, sign-more}
-use Rattle.asking.proofs.argument.sign_in.Statement.{statement}
-use Rattle.asking.proofs.argument.sign_in.Tie as tie
+use Rattle.argument.specs.Sign.{signIn}
+use Rattle.argument.proofs.Reading.{sign-none, sign-stop, sign-more}
+use Rattle.argument.proofs.sign_in.Statement.{statement}
+use Rattle.argument.proofs.sign_in.Tie as tie
 
 abbrev Inv-loop : tie.InvT-loop
 Inv-loop bytes i₀ i = signIn bytes ≡ i + signIn (drop i bytes)

@@ -2,8 +2,8 @@
 use borrow.Author.Needs.{needs}
 use Prim.Native.Nat.{_-_, _<_, _^_}
 use native.Mathlib.Omega.{arith}
-use Rattle.asks.proofs.next_table.Statement.{statement}
-use Rattle.asks.proofs.next_table.Tie as tie
+use Rattle.vectors.proofs.next_table.Statement.{statement}
+use Rattle.vectors.proofs.next_table.Tie as tie
 
 abbrev Inv-loop : tie.InvT-loop
 Inv-loop i end k₀ k = end < 2 ^ 64

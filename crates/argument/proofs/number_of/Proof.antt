@@ -7,9 +7,9 @@ use native.Mathlib.Omega.{arith}
 use lib.ListN.{length, drop}
 use Rattle.table.specs.Digits.{digits, numberOf}
 use Rattle.table.proofs.Numerals.{ranged, number-digits}
-use Rattle.asking.proofs.Reading.{TOP, by-none, no-bytes, zero-first, byte-below, byte-above, byte-digit, too-great, whole-number}
-use Rattle.asking.proofs.argument.number_of.Statement.{statement}
-use Rattle.asking.proofs.argument.number_of.Tie as tie
+use Rattle.argument.proofs.Reading.{TOP, by-none, no-bytes, zero-first, byte-below, byte-above, byte-digit, too-great, whole-number}
+use Rattle.argument.proofs.number_of.Statement.{statement}
+use Rattle.argument.proofs.number_of.Tie as tie
 
 abbrev Inv-loop : tie.InvT-loop
 Inv-loop bytes value₀ i₀ value i = (value ≤ TOP) × (numberOf bytes 0 TOP ≡ ranged 0 TOP (digits (drop i bytes) value))

@@ -6,9 +6,9 @@ use native.Mathlib.Nat.{min-eq-left}
 use native.Mathlib.Omega.{arith}
 use denote.Ref.{now}
 use lib.ListN.{length-take}
-use Rattle.asking.proofs.Reading.{by-no-request, unparted, no-mode, no-clock, read-request}
-use Rattle.asking.proofs.argument.request_of.Statement.{statement}
-use Rattle.asking.proofs.argument.request_of.Tie as tie
+use Rattle.argument.proofs.Reading.{by-no-request, unparted, no-mode, no-clock, read-request}
+use Rattle.argument.proofs.request_of.Statement.{statement}
+use Rattle.argument.proofs.request_of.Tie as tie
 
 mode-counted : tie.Need-slice-aggregate-number-of
 mode-counted c =

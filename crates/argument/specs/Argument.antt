@@ -1,13 +1,12 @@
 -- What the arguments of a call are: numbers in plain decimal, and requests.
 use mathlib.Core.Path.{_≡_}
-use mathlib.Core.Bool.{true, false, cond}
-use mathlib.Core.List.{List, [], _∷_, _++_}
-use Prim.Native.Nat.{ℕ, suc, _^_, _<_}
-use lib.Dec.{eqb}
+use mathlib.Core.Bool.{true, false}
+use mathlib.Core.List.{List, _∷_, _++_}
+use Prim.Native.Nat.{ℕ, _^_, _<_}
 use Rattle.units.specs.Ticks.{tick}
 use Rattle.table.specs.Decimal.{decimal}
-use Rattle.asking.specs.declared.argument.Number.{Number}
-use Rattle.asking.specs.declared.argument.Request.{Request}
+use Rattle.argument.specs.declared.Number.{Number}
+use Rattle.argument.specs.declared.Request.{Request}
 
 abbrev pub aNumber : ℕ → Number
 aNumber n = record { good = true; value = n }
@@ -34,8 +33,3 @@ requestText mode clock = decimal mode ++ (64 ∷ decimal clock)
 pub data RequestOf (bytes : List ℕ) : Request → Type 0 where
   good : {mode clock : ℕ} → bytes ≡ requestText mode clock → mode < 2 ^ 64 → clock < 2 ^ 64 → RequestOf bytes (aRequest mode clock)
   bad : ((mode clock : ℕ) → bytes ≡ requestText mode clock → mode < 2 ^ 64 → clock < 2 ^ 64 → ⊥) → RequestOf bytes noRequest
-
--- Model: how many bytes stand before the first @.
-unfoldable pub signIn : List ℕ → ℕ
-signIn [] = 0
-signIn (b ∷ t) = cond (eqb b 64) 0 (suc (signIn t))

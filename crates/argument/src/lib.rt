@@ -1,7 +1,8 @@
 // The arguments of a call: plain decimal numbers, and requests.
 use units::Tick;
 ghost use mathlib.Core.Path.{_≡_};
-ghost use Rattle.asking.specs.Argument.{noNumber, NumberOf, signIn, noRequest, RequestOf};
+ghost use Rattle.argument.specs.Argument.{noNumber, NumberOf, noRequest, RequestOf};
+ghost use Rattle.argument.specs.Sign.{signIn};
 
 // A number, where the bytes are one in plain decimal that fits in 64 bits.
 pub struct Number {

@@ -14,9 +14,10 @@ use Rattle.table.specs.Decimal.{decimal}
 use Rattle.table.specs.Digits.{digitOf, digits, onNumber, numberOf}
 use Rattle.table.proofs.Numerals.{ranged, above, number-empty, number-zero, number-next}
 use Rattle.table.proofs.Written.{IsDigit, all-digits, number-iff, decimal-one}
-use Rattle.asking.specs.declared.argument.Number.{Number}
-use Rattle.asking.specs.declared.argument.Request.{Request}
-use Rattle.asking.specs.Argument.{aNumber, noNumber, NumberOf, aRequest, noRequest, requestText, RequestOf, signIn}
+use Rattle.argument.specs.declared.Number.{Number}
+use Rattle.argument.specs.declared.Request.{Request}
+use Rattle.argument.specs.Argument.{aNumber, noNumber, NumberOf, aRequest, noRequest, requestText, RequestOf}
+use Rattle.argument.specs.Sign.{signIn}
 
 -- the greatest number of 64 bits
 abbrev pub TOP : ℕ

@@ -1,0 +1,3 @@
+-- What the proofs lean on.
+mod Reading
+mod Settled

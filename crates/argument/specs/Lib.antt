@@ -1,0 +1,3 @@
+-- The arguments of a call.
+pub mod Argument
+pub mod Sign
