@@ -1,0 +1,4 @@
+-- What the proofs lean on.
+mod Telling
+mod Unique
+mod Settled

@@ -1,0 +1,2 @@
+-- What firmware is told.
+pub mod Face

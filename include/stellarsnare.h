@@ -1,0 +1,48 @@
+/* Plans of modes and their changes, for firmware on x86-64: link target/staticlib/libstellarsnare.a, which `rt staticlib stellarsnare` makes.
+ *
+ * Each function gives whether it was accepted. Whatever is refused leaves words, machine, delay, out and length as they stood. Every text, every
+ * buffer and every number has an answer.
+ *
+ * refusal: the five numbers of the refusal's line, which are number, row, mode, actor and processor, with 0 where none is named; all 0 where nothing
+ * is refused.
+ *
+ * machine: the three numbers of a machine, which are its mode, its starting tick and the tick at which its change ends.
+ *
+ * What the proofs assume of the caller: a pointer is valid for as many elements as stand beside it, or in its brackets, is aligned for them, and is
+ * not NULL even where there are none; what lies there has been set before; and no two pointers of one call lead to the same memory.
+ */
+#ifndef STELLARSNARE_H
+#define STELLARSNARE_H
+
+#include <stdbool.h>
+#include <stddef.h>
+#include <stdint.h>
+
+#ifdef __cplusplus
+extern "C" {
+#endif
+
+/* the one length of a plan, in words of 64 bits: any other is refused with 15 */
+#define STELLARSNARE_WORDS 6120
+
+/* the one length of the buffer into which a plan is printed, in bytes: any other is refused with 15 */
+#define STELLARSNARE_PRINTED 19032
+
+/* Plans the table of a text into the words. Refusals: 15, then 1 to 10. */
+bool stellarsnare_plan(const uint8_t *text, size_t bytes, uint64_t *words, size_t count, uint64_t refusal[5]);
+
+/* Begins a machine, at tick 0 in a listed mode; mode 0 stands for the lowest of them. Refusals: 15, then 11. */
+bool stellarsnare_start(const uint64_t *words, size_t count, uint64_t mode, uint64_t machine[3], uint64_t refusal[5]);
+
+/* Answers a machine's request for a mode at a tick of the clock: its delay, and the machine in the new mode. Refusals: 15, 16, then 11 to 14. */
+bool stellarsnare_request(const uint64_t *words, size_t count, uint64_t machine[3], uint64_t mode, uint64_t clock, uint64_t *delay,
+                          uint64_t refusal[5]);
+
+/* Prints the plan that the words hold: length is the number of its bytes, and the bytes behind them are 0. Refusal: 15. */
+bool stellarsnare_print(const uint64_t *words, size_t count, uint8_t *out, size_t bytes, size_t *length, uint64_t refusal[5]);
+
+#ifdef __cplusplus
+}
+#endif
+
+#endif
