@@ -1,9 +1,9 @@
 -- The overlap and the offset that are found are those of the rules: for any limit, the load is borne from an offset on exactly when each new actor waits for each
 -- old one with which its processor would be asked for more. Assumes nothing.
-use mathlib.Core.Path.{_≡_, refl, sym, _∙_}
+use mathlib.Core.Path.{_≡_, refl, sym, ap₂, subst, _∙_}
 use mathlib.Core.Bool.{Bool, true, false, cond}
 use mathlib.Core.Logic.{_⊎_, inl, inr, ⊎-elim, _↔_}
-use Prim.Native.Nat.{ℕ, suc, _+_, _-_, _*_, _≤_, _<_, max, zero-le}
+use Prim.Native.Nat.{ℕ, suc, _+_, _-_, _*_, _/_, _%_, _≤_, _<_, max, zero-le}
 use native.Mathlib.Nat.{mul-pos, mul-le-mul-left, mul-le-mul-right, lt-of-not-le, not-le-of-lt, le-trans, lt-irrefl}
 use native.Mathlib.Omega.{arith}
 use native.Mathlib.Decide.{decLe}
@@ -22,7 +22,7 @@ use Rattle.units.specs.declared.Tick.{Tick}
 use Rattle.change.specs.declared.Running.{Running}
 use Rattle.change.specs.Work.{tickAt}
 use Rattle.change.specs.Change.{Runs, actorIn, startOf, askedOf, loadAt, Bearable, Bears, Overlap, Offset, Ready}
-use Rattle.change.specs.Waits.{Part, leadOf, overlapOf, oldSide, newSide, waitOf, offsetFrom}
+use Rattle.change.specs.Waits.{Part, leadOf, overlapOf, oldSide, newSide, waitOf, pairWait, offsetFrom}
 use Rattle.change.proofs.Loads.{workIn, work-within, FromFirst, work-first, ToLast, work-last, work-nowhere, asked-proper, asked-work}
 
 -- what two works ask together of a processor, each as a part of its mode's iteration
@@ -195,9 +195,19 @@ module _ (limit : Fraction) where
     -- the load is borne from an offset on exactly when it is at least what is found
     pub bears-from : Bearable limit old → Bearable limit new → (d : ℕ) → Bears limit old new d ↔ (offsetFrom limit old new .0 ≤ d)
     bears-from own-old own-new d = (
-      (λ b. most-within _ d ACTORS (λ i li. most-within _ d ACTORS (λ j lj. wait-is d i j li lj .1 (bears-waits d b i j li lj)))),
-      (λ h. waits-bears d (λ i j li lj. wait-is d i j li lj .0 (le-trans (most-above _ ACTORS j lj) (le-trans (most-above _ ACTORS i li) h))) own-old own-new),
+      (λ b. most-within (pairWait limit old new) d (ACTORS * ACTORS) (λ n l. waits b (n / ACTORS) (n % ACTORS) (omega arith) (omega arith))),
+      (λ h. waits-bears d (λ i j li lj. wait-is d i j li lj .0 (le-trans (within i j li lj) h)) own-old own-new),
     )
+      where
+        waits : Bears limit old new d → (i j : ℕ) → i < ACTORS → j < ACTORS → waitOf limit (oldSide old i) (newSide new j) .0 ≤ d
+        waits b i j li lj = wait-is d i j li lj .1 (bears-waits d b i j li lj)
+
+        within : (i j : ℕ) → i < ACTORS → j < ACTORS → waitOf limit (oldSide old i) (newSide new j) .0 ≤ offsetFrom limit old new .0
+        within i j li lj =
+            let e : (ACTORS * i + j) / ACTORS ≡ i = omega arith in
+            let f : (ACTORS * i + j) % ACTORS ≡ j = omega arith in
+            let w : pairWait limit old new (ACTORS * i + j) ≡ waitOf limit (oldSide old i) (newSide new j) .0 = ap₂ (λ (x y : ℕ). waitOf limit (oldSide old x) (newSide new y) .0) e f in
+            subst (λ (x : ℕ). x ≤ offsetFrom limit old new .0) w (most-above (pairWait limit old new) (ACTORS * ACTORS) (ACTORS * i + j) (omega arith))
 
     -- so it is from the end of the old mode's start-up
     pub bears-at-last : Bearable limit old → Bearable limit new → Bears limit old new (old .startup .0)

@@ -1,6 +1,6 @@
 -- Model of wait.rt: how long a new mode waits for an old one.
 use mathlib.Core.Bool.{cond}
-use Prim.Native.Nat.{ℕ, _-_, _≤_, _<_}
+use Prim.Native.Nat.{ℕ, _-_, _*_, _/_, _%_, _≤_, _<_}
 use lib.Bits.{bitAnd}
 use lib.Dec.{eqb}
 use Rattle.numbers.specs.Bits.{hasb}
@@ -38,8 +38,9 @@ newSide r j = record { processor = actorIn r j .processor; start = tickAt (r .st
 abbrev pub waitOf : Fraction → Side → Side → Tick
 waitOf limit a b = cond (eqb (a .processor) (b .processor)) (cond (atMostb (plus (a .asked) (b .asked)) limit) (tick 0) (minusOf (a .start) (b .start))) (tick 0)
 
-abbrev pub waitsOf : Fraction → Side → Running → Tick
-waitsOf limit a new = tick (mostOf (λ j. waitOf limit a (newSide new j) .0) ACTORS)
+-- how long the new mode waits: the greatest over the pairs of an old actor and a new one, the pair of i and j at ACTORS * i + j
+abbrev pub pairWait : Fraction → Running → Running → ℕ → ℕ
+pairWait limit old new n = waitOf limit (oldSide old (n / ACTORS)) (newSide new (n % ACTORS)) .0
 
 abbrev pub offsetFrom : Fraction → Running → Running → Tick
-offsetFrom limit old new = tick (mostOf (λ i. waitsOf limit (oldSide old i) new .0) ACTORS)
+offsetFrom limit old new = tick (mostOf (pairWait limit old new) (ACTORS * ACTORS))

@@ -11,7 +11,7 @@ use units::Tick;
 ghost use mathlib.Core.Path.{_≡_};
 ghost use Rattle.terms.specs.Limits.{LOAD-LIMIT};
 ghost use Rattle.change.specs.Change.{Ready};
-ghost use Rattle.change.specs.Waits.{Part, overlapOf, waitOf, waitsOf, offsetFrom};
+ghost use Rattle.change.specs.Waits.{Part, overlapOf, waitOf, offsetFrom};
 
 // The greatest of 0 and the starts less the new ones, over the actors in both modes.
 pub(crate) fn overlap_of(old: Running, new: Running) -> Tick
@@ -44,44 +44,37 @@ fn wait(old: Side, new: Side) -> Tick
     if old.processor != new.processor {
         return Tick(0);
     }
+    if old.start.by(new.start) {
+        return Tick(0);
+    }
     if at_most(plus(old.asked, new.asked), LOAD_LIMIT) {
         return Tick(0);
     }
     old.start.minus(new.start)
 }
 
-// How long the new mode waits for an old actor.
-fn waits(old: Side, new: Running) -> Tick
-    requires { ⌜ Part (old .asked) × Ready new ⌝ }
-    ensures { λ r. ⌜ r ≡ waitsOf LOAD-LIMIT old new ⌝ }
-{
-    let mut most = Tick(0);
-    for j in 0..ACTORS {
-        let actor = new.actors[j];
-        let side = Side {
-            processor: actor.processor,
-            start: new.starts[j],
-            asked: period::part(new.until[j], new.iteration),
-        };
-        most = most.later(wait(old, side));
-    }
-    most
-}
-
-// How long it waits for all of them.
+// How long the new mode waits for the old one: the longest that one of its actors waits for one of the old.
 pub(crate) fn offset_of(old: Running, new: Running) -> Tick
     requires { ⌜ Ready old × Ready new ⌝ }
     ensures { λ r. ⌜ r ≡ offsetFrom LOAD-LIMIT old new ⌝ }
 {
     let mut most = Tick(0);
-    for i in 0..ACTORS {
-        let actor = old.actors[i];
-        let side = Side {
-            processor: actor.processor,
+    for n in 0..ACTORS * ACTORS {
+        let i = n / ACTORS;
+        let j = n % ACTORS;
+        let before = old.actors[i];
+        let after = new.actors[j];
+        let left = Side {
+            processor: before.processor,
             start: old.starts[i],
             asked: period::part(old.since[i], old.iteration),
         };
-        most = most.later(waits(side, new));
+        let entered = Side {
+            processor: after.processor,
+            start: new.starts[j],
+            asked: period::part(new.until[j], new.iteration),
+        };
+        most = most.later(wait(left, entered));
     }
     most
 }

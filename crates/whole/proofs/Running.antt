@@ -8,11 +8,12 @@ use native.Mathlib.Nat.{lt-of-not-le, lt-of-lt-of-le, mul-comm}
 use native.Mathlib.Omega.{arith}
 use native.Mathlib.Decide.{decLe}
 use lib.Dec.{eqb}
-use lib.ListN.{getD}
+use lib.ListN.{getD, replicate, length-replicate}
+use lib.Seq.{ext-getD}
 use Rattle.numbers.specs.Bits.{Has, bit, hasb, has-decides, has-or-not, has-below, some-has, bit-zero}
 use Rattle.numbers.specs.Decides.{decides-true}
 use Rattle.numbers.specs.Fraction.{AtMost, sum-alike, nothing}
-use Rattle.numbers.specs.Tab.{length-tab, getD-tab}
+use Rattle.numbers.specs.Tab.{length-tab, getD-tab, getD-replicated}
 use Rattle.terms.specs.Limits.{MODES, ACTORS, MOST-WCET, LOAD-LIMIT}
 use Rattle.units.specs.declared.Tick.{Tick}
 use Rattle.units.specs.declared.Firing.{Firing}
@@ -20,7 +21,7 @@ use Rattle.units.specs.Ticks.{tick}
 use Rattle.terms.specs.Period.{firing, periodOf, partOf}
 use Rattle.graph.specs.declared.shape.Mode.{Mode}
 use Rattle.graph.specs.declared.shape.Table.{Table}
-use Rattle.graph.specs.Shape.{modeAt, actorAt, Active}
+use Rattle.graph.specs.Shape.{modeAt, actorAt, Active, noActor}
 use Rattle.graph.specs.Proper.{ProperMode, ProperTable}
 use Rattle.graph.specs.Balance.{firingsOf}
 use Rattle.graph.specs.Load.{Overloaded, askedBy, loadOf}
@@ -32,7 +33,7 @@ use Rattle.change.specs.Work.{Fitting}
 use Rattle.change.specs.Change.{askedBy as asked, askedOf, Bearable, Ready}
 use Rattle.whole.specs.declared.Part.{Part}
 use Rattle.whole.specs.Whole.{noPart, partOf as planOf, Listed, ModePlanned, IsPart, runningOf}
-use Rattle.whole.specs.Steps.{Made, noRunning, runningsOf, AllReady}
+use Rattle.whole.specs.Steps.{Made, noRunning, idleRunning, runningsOf, AllReady}
 use Rattle.whole.proofs.Told.{judged-sound, scheduled-times}
 use Rattle.whole.proofs.Bounds.{START-LIMIT, mode-small, part-small}
 
@@ -120,6 +121,16 @@ module _ (t : Table) (proper : ProperTable t) where
         wcet = wcet-small (modeAt t k) (proper .mode k l);
         few = λ i h. small .firings i;
       }
+
+  -- a mode that is not listed has no actor and no part
+  pub part-idle : (k : ℕ) (p : Part) → k < MODES → IsPart t k p → modeAt t k .active ≡ 0 → idleRunning ≡ runningOf (modeAt t k) p
+  part-idle k p l is e =
+      let m = modeAt t k in
+      let none : (i : ℕ) → i < ACTORS → Has (m .active) i → ⊥ = λ i h a. listed-none t k (l, (i, (h, a))) e in
+      let actors : m .actors ≡ replicate ACTORS noActor
+      = ext-getD noActor (m .actors) (replicate ACTORS noActor) (proper .mode k l .actors-long ∙ sym (length-replicate ACTORS noActor))
+      (λ i h. proper .mode k l .no-actor i (omega (arith, proper .mode k l .actors-long)) (none i (omega (arith, proper .mode k l .actors-long))) ∙ sym (getD-replicated ACTORS i noActor)) in
+      rw (is .unlisted (λ w. listed-none t k w e), e, actors)
 
   -- all modes of a plan that have an actor
   pub all-ready : (ps : List Part) → Made MODES (IsPart t) noPart ps MODES → AllReady (runningsOf t ps)

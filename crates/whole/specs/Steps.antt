@@ -8,7 +8,7 @@ use Rattle.units.specs.Ticks.{tick}
 use Rattle.terms.specs.Limits.{MODES}
 use Rattle.graph.specs.declared.shape.Mode.{Mode}
 use Rattle.graph.specs.declared.shape.Table.{Table}
-use Rattle.graph.specs.Shape.{modeAt}
+use Rattle.graph.specs.Shape.{modeAt, emptyMode}
 use Rattle.change.specs.declared.Running.{Running}
 use Rattle.change.specs.declared.Timing.{Timing}
 use Rattle.change.specs.Change.{Ready, Changes}
@@ -52,6 +52,10 @@ noRunning =
       since = [];
       until = [];
     }
+
+-- a mode that is not listed, as it runs: nothing does
+abbrev pub idleRunning : Running
+idleRunning = runningOf emptyMode emptyPart
 
 abbrev pub runningAt : List Running → ℕ → Running
 runningAt rs k = getD rs k noRunning

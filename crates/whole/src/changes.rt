@@ -16,7 +16,7 @@ ghost use Rattle.terms.specs.Limits.{MODES};
 ghost use Rattle.graph.specs.Proper.{ProperTable};
 ghost use Rattle.change.specs.Change.{Ready};
 ghost use Rattle.whole.specs.Whole.{noPart, noTiming, IsPart};
-ghost use Rattle.whole.specs.Steps.{Made, runningsOf, AllReady, Between, ChangeOf};
+ghost use Rattle.whole.specs.Steps.{Made, idleRunning, runningsOf, AllReady, Between, ChangeOf};
 
 // No change.
 pub(crate) fn none() -> Timing
@@ -30,7 +30,9 @@ pub(crate) fn none() -> Timing
 }
 
 // A mode in which nothing runs.
-fn idle() -> Running {
+fn idle() -> Running
+    ensures { λ r. ⌜ r ≡ idleRunning ⌝ }
+{
     let actor = Actor {
         phases: 0,
         wcet: Tick(0),
@@ -57,20 +59,22 @@ pub(crate) fn runnings_of(table: Table, parts: [Part; MODES]) -> [Running; MODES
     let mut runnings = [idle(); MODES];
     for k in 0..MODES {
         let mode = table.modes[k];
-        let part = parts[k];
-        let actors = mode.actors;
-        let firings = part.firings;
-        let periods = part.periods;
-        let starts = part.starts;
-        runnings[k] = prepare(
-            mode.active,
-            actors,
-            part.iteration,
-            firings,
-            periods,
-            starts,
-            part.startup,
-        );
+        if mode.active != 0 {
+            let part = parts[k];
+            let actors = mode.actors;
+            let firings = part.firings;
+            let periods = part.periods;
+            let starts = part.starts;
+            runnings[k] = prepare(
+                mode.active,
+                actors,
+                part.iteration,
+                firings,
+                periods,
+                starts,
+                part.startup,
+            );
+        }
     }
     runnings
 }

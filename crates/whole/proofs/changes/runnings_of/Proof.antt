@@ -1,42 +1,50 @@
--- whole::changes::runnings_of meets its contract. The invariant: the modes below k are prepared. Assumes nothing.
+-- whole::changes::runnings_of meets its contract. The invariant: the listed modes below k are prepared, and the others are idle. Assumes nothing.
 use borrow.Author.Needs.{needs}
-use mathlib.Core.Path.{_≡_}
+use mathlib.Core.Logic.{⊎-elim}
 use Prim.Native.Nat.{_-_, _≤_}
 use native.Mathlib.Omega.{arith}
 use lib.ListN.{getD}
-use Rattle.numbers.specs.Tab.{is-tab}
+use Rattle.numbers.specs.Tab.{Filled, filled-none, filled-set, filled-left, filled-all}
 use Rattle.terms.specs.Limits.{MODES}
 use Rattle.graph.specs.Shape.{modeAt}
-use Rattle.change.specs.declared.Running.{Running}
 use Rattle.whole.specs.Whole.{noPart, runningOf}
-use Rattle.whole.specs.Steps.{Made, noRunning}
-use Rattle.whole.proofs.Making.{made-none, made-set}
-use Rattle.whole.proofs.Running.{part-fitting}
+use Rattle.whole.specs.Steps.{idleRunning}
+use Rattle.whole.proofs.Running.{part-fitting, part-idle}
 use Rattle.whole.proofs.changes.runnings_of.Statement.{statement}
 use Rattle.whole.proofs.changes.runnings_of.Tie as tie
 
 abbrev Inv-loop : tie.InvT-loop
 Inv-loop table parts runnings₀ k₀ runnings k =
-    (k ≤ MODES) × Made MODES (λ i (r : Running). r ≡ runningOf (modeAt table i) (getD parts i noPart)) noRunning runnings k
+    (k ≤ MODES) × Filled MODES (λ i. runningOf (modeAt table i) (getD parts i noPart)) idleRunning runnings k
 
 abbrev μ-loop : tie.MeasureT-loop
 μ-loop table parts runnings₀ k₀ runnings k = MODES - k
 
+loop-holds : tie.Need-loop-holds Inv-loop μ-loop
+loop-holds c = (omega arith, rw (c .idle .ensures) (filled-none MODES _ idleRunning))
+
 prepare-requires : tie.Need-prepare-requires Inv-loop μ-loop
 prepare-requires c κs =
-    let l = c .before .before .before .before .before .before .before in
-    let h = c .before .before .before .before .before .before .loop-test .taken in
-    let p = l .before .before .pre in
-    part-fitting _ (p .0) (l .loop .k) _ h (p .1 .each (l .loop .k) h)
+    let t = c .before .before .before .before .before .before .before .before in
+    let k = t .before .loop .k in
+    let p = t .before .before .before .pre in
+    part-fitting _ (p .0) k _ (t .loop-test .taken) (p .1 .each k (t .loop-test .taken))
 
 loop-again : tie.Need-loop-again Inv-loop μ-loop
 loop-again c =
-    let l = c .before .before .before .before .before .before .before .before in
-    let h = c .before .before .before .before .before .before .before .loop-test .taken in
-    (omega arith, made-set MODES _ noRunning _ (l .loop .k) _ h (c .prepare .ensures) (l .loop .inv .1))
+    let t = c .before .before .before in
+    let l = t .before .loop in
+    let p = t .before .before .before .pre in
+    let h = t .loop-test .taken in (
+      omega (arith, h),
+      ⊎-elim
+          (λ w. rw (w .7) (filled-set MODES _ idleRunning (l .runnings) (l .k) _ h (w .6 .ensures) (l .inv .1)))
+          (λ w. rw (w .1) (filled-left MODES _ idleRunning (l .runnings) (l .k) (part-idle _ (p .0) (l .k) _ h (p .1 .each (l .k) h) (w .0 .left)) (l .inv .1)))
+          (c .if1 .came),
+    )
 
 returns : tie.Need-returns Inv-loop μ-loop
-returns c = is-tab MODES _ _ noRunning (c .before .loop .inv .1 .long) (λ i h. c .before .loop .inv .1 .each i (omega (arith, c .loop-test .left)))
+returns c = filled-all MODES _ idleRunning _ (c .before .loop .k) (omega arith) (c .before .loop .inv .1)
 
 pub runnings-of-spec : {M : Type 1} → statement M
 runnings-of-spec =
@@ -45,7 +53,7 @@ runnings-of-spec =
     Inv-loop
     μ-loop
     (λ c κs. search needs)
-    (λ c. (omega arith, made-none MODES _ noRunning _))
+    loop-holds
     (λ c. omega arith)
     (λ c. omega arith)
     (λ c. omega arith)
