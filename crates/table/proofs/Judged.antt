@@ -15,12 +15,11 @@ use Rattle.numbers.specs.Bits.{hasb}
 use Rattle.terms.specs.Limits.{MODES, ACTORS, CHANNELS, PHASES}
 use Rattle.graph.specs.declared.shape.Actor.{Actor}
 use Rattle.graph.specs.declared.shape.Mode.{Mode}
-use Rattle.graph.specs.Shape.{actorAt, modeAt, withActor, withChannel}
-use Rattle.table.specs.declared.row.Listing.{Listing}
+use Rattle.graph.specs.Shape.{actorAt, modeAt}
 use Rattle.table.specs.Rows.{Row, actor, channel, Between, InRange, Lists, Listed, Unfit, Refused3, Refused4, Refused5, Passes}
 use Rattle.table.specs.Told.{padded, tableOf}
 use Rattle.table.specs.Digits.{rates, ratesIn}
-use Rattle.table.specs.Judge.{row, refusal, zeros, suitsb, actorListed, channelListed, listed, homesOf, judged}
+use Rattle.table.specs.Judge.{row, zeros, suitsb, actorListed, channelListed, listed, homesOf, judged}
 use Rattle.table.proofs.Lookup.{Passed, start, then, Holds, holds, lists-cons}
 
 -- where an actor was last listed
@@ -166,9 +165,6 @@ module _ {rs : List Row} (passed : Passed rs) where
       home : ℕ
       home = getD (homesOf rs) (a - 1) 0
 
-      ok : Listing
-      ok = record { number = 0; home = c; mode = withActor M (a - 1) (record { phases = p; wcet = record { 0 = w }; processor = c }) }
-
       stays : home ≡ 0 ⊎ (home ≡ c) → Refused4 rs (actor m a p w c) → ⊥
       stays (inl e) (n, q, x, d, l, ne) = absurd (omega (arith, h .is n a q x d (i .1) l, lists-range passed l .4 .0))
       stays (inr e) (n, q, x, d, l, ne) = ne (sym (h .is n a q x d (i .1) l) ∙ e)
@@ -177,7 +173,7 @@ module _ {rs : List Row} (passed : Passed rs) where
       not-listed e l = eqb-false _ 1 e (g .has m a (i .0) (i .1) .1 l)
 
       go : (x y z : Bool) → hasb (M .active) (a - 1) ≡ x → eqb home 0 ≡ y → eqb home c ≡ z
-          → Verdict rs (actor m a p w c) ((cond x (refusal 3 M) (cond (not y && not z) (refusal 4 M) ok)) .number)
+          → Verdict rs (actor m a p w c) (cond x 3 (cond (not y && not z) 4 0))
       go true y z e f k = third (g .has m a (i .0) (i .1) .0 (eqb-true _ 1 e))
       go false true z e f k = passes (not-listed e, stays (inl (eqb-true home 0 f)), λ q. q)
       go false false true e f k = passes (not-listed e, stays (inr (eqb-true home c k)), λ q. q)
@@ -201,9 +197,6 @@ module _ {rs : List Row} (passed : Passed rs) where
 
       r : Row
       r = channel m f u ps cs
-
-      ok : Listing
-      ok = record { number = 0; home = getD (homesOf rs) (f - 1) 0; mode = withChannel M (record { from = f - 1; to = u - 1; production = padded ps; consumption = padded cs }) }
 
       end-listed : (a : ℕ) → Between 1 ACTORS a → hasb (M .active) (a - 1) ≡ true → Listed rs m a
       end-listed a ha e = g .has m a (i .0) ha .0 (eqb-true _ 1 e)
@@ -235,8 +228,7 @@ module _ {rs : List Row} (passed : Passed rs) where
 
       go : (x y z v w : Bool) → hasb (M .active) (f - 1) ≡ x → hasb (M .active) (u - 1) ≡ y → leb CHANNELS (M .count) ≡ z
           → suitsb (ratesIn (rates ps)) (actorAt M (f - 1) .phases) ≡ v → suitsb (ratesIn (rates cs)) (actorAt M (u - 1) .phases) ≡ w
-          → Verdict rs r
-          ((cond (not x) (refusal 3 M) (cond (not y) (refusal 3 M) (cond z (refusal 3 M) (cond (not v) (refusal 5 M) (cond (not w) (refusal 5 M) ok))))) .number)
+          → Verdict rs r (cond (not x) 3 (cond (not y) 3 (cond z 3 (cond (not v) 5 (cond (not w) 5 0)))))
       go false y z v w e k o s t = third (inl (end-missing f (i .1) e))
       go true false z v w e k o s t = third (inr (inl (end-missing u (i .2) k)))
       go true true true v w e k o s t = third (inr (inr (omega (arith, g .count m (i .0), leb-true CHANNELS (M .count) o))))

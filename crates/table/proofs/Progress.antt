@@ -1,26 +1,27 @@
 -- What holds before each row of the text that is read. Assumes nothing.
 use mathlib.Core.Path.{_≡_, refl, sym, ap, ap₂, subst, _∙_}
-use mathlib.Core.Bool.{Bool, true, false, _&&_, not, cond}
+use mathlib.Core.Bool.{Bool, true, false, not, cond}
 use mathlib.Core.List.{List, [], _∷_, map}
 use Prim.Native.Nat.{ℕ, zero, suc, _+_, _-_, _≤_, _<_}
 use native.Mathlib.Omega.{arith}
 use lib.Dec.{eqb, leb}
 use lib.ListN.{length, getD, set, drop, length-drop, drop-of-length-le}
 use lib.Seq.{set-getD}
-use borrow.Author.Tests.{eq-eqb, ne-eqb, lt-ltb, le-ltb}
+use borrow.Author.Tests.{eq-eqb, ne-eqb, lt-ltb, le-ltb, leb-false}
 use Rattle.terms.specs.Limits.{MODES, ACTORS, MOST-BYTES, CHANNELS}
 use Rattle.graph.specs.declared.shape.Table.{Table}
 use Rattle.graph.specs.declared.shape.Mode.{Mode}
 use Rattle.graph.specs.Shape.{modeAt, actorAt, emptyTable, withMode, withActor, withChannel}
 use Rattle.table.specs.declared.Reading.{Reading}
 use Rattle.table.specs.declared.record.Record.{Record}
+use Rattle.table.specs.declared.row.Kind.{Kind}
+use Rattle.table.specs.declared.row.Kind.the-variants.{Actor, Channel, Bad}
 use Rattle.table.specs.declared.row.Line.{Line}
-use Rattle.table.specs.declared.row.Listing.{Listing}
 use Rattle.table.specs.Rows.{Row, actor, channel, InRange}
 use Rattle.table.specs.Told.{rows, refused, tableOf, readingOf, Told}
 use Rattle.table.specs.Scan.{Cells, got, bad, cellsFrom, bytesOf, RecordIs, Good}
 use Rattle.numbers.specs.Bits.{hasb}
-use Rattle.table.specs.Judge.{Parsed, row, none, parsedOf, lineOf, refusal, suitsb, actorListed, channelListed, listed, homesOf, judged, onParsed, readFrom, readOf}
+use Rattle.table.specs.Judge.{Parsed, row, none, parsedOf, lineOf, byKind, suitsb, actorListed, channelListed, actorb, wayOf, Listing, listed, homesOf, judged, onParsed, readFrom, readOf}
 use Rattle.table.proofs.Records.{RecordedAt, cells-recorded}
 use Rattle.table.proofs.Parsed.{parsed-says}
 use Rattle.table.proofs.Lookup.{Passed, start, then}
@@ -71,62 +72,49 @@ progress-none text homes ne h e =
       read = rw (ne-eqb (length text) 0 ne, le-ltb MOST-BYTES (length text) h);
     }
 
--- what a row that was taken leaves
-actor-taken : (M : Mode) (home : ℕ) (l : Line) → actorListed M home l .number ≡ 0
-    → (actorListed M home l .mode ≡ withActor M (l .actor) (l .is)) × (actorListed M home l .home ≡ l .is .processor)
-unfolding actorListed
-actor-taken M home l = go (hasb (M .active) (l .actor)) (not (eqb home 0) && not (eqb home (l .is .processor)))
+-- what the row of an actor leaves, and what that of a channel leaves, for which there is room
+pub actor-step : (M : Mode) (home : ℕ) (l : Line) → actorb l ≡ true → (withActor M (l .actor) (l .is) ≡ listed M home l .mode) × (l .is .processor ≡ listed M home l .home)
+unfolding listed
+actor-step M home l = go (l .kind)
   where
-    ok : Listing
-    ok = record { number = 0; home = l .is .processor; mode = withActor M (l .actor) (l .is) }
+    go : (k : Kind) → byKind k true false false ≡ true
+        → (withActor M (l .actor) (l .is) ≡ byKind k (withActor M (l .actor) (l .is)) (withChannel M (wayOf l)) M) × (l .is .processor ≡ byKind k (l .is .processor) home home)
+    go Actor e = (refl, refl)
+    go Channel e = absurd-by (cc)
+    go Bad e = absurd-by (cc)
 
-    go : (x y : Bool) → (cond x (refusal 3 M) (cond y (refusal 4 M) ok)) .number ≡ 0
-        → ((cond x (refusal 3 M) (cond y (refusal 4 M) ok)) .mode ≡ withActor M (l .actor) (l .is)) × ((cond x (refusal 3 M) (cond y (refusal 4 M) ok)) .home ≡ l .is .processor)
-    go true y e = absurd (omega arith)
-    go false true e = absurd (omega arith)
-    go false false e = (refl, refl)
-
-channel-taken : (M : Mode) (home : ℕ) (l : Line) → channelListed M home l .number ≡ 0
-    → (channelListed M home l .mode ≡ withChannel M (record { from = l .actor; to = l .to; production = l .production .values; consumption = l .consumption .values }))
-    × (channelListed M home l .home ≡ home)
-unfolding channelListed
-channel-taken M home l =
-    go (not (hasb (M .active) (l .actor))) (not (hasb (M .active) (l .to))) (leb CHANNELS (M .count))
-    (not (suitsb (l .production) (actorAt M (l .actor) .phases))) (not (suitsb (l .consumption) (actorAt M (l .to) .phases)))
+pub channel-step : (M : Mode) (home : ℕ) (l : Line) → actorb l ≡ false → listed M home l .number ≡ 0
+    → (M .count < CHANNELS) × (withChannel M (wayOf l) ≡ listed M home l .mode) × (home ≡ listed M home l .home)
+unfolding listed channelListed
+channel-step M home l = go (l .kind)
   where
-    after : Mode
-    after = withChannel M (record { from = l .actor; to = l .to; production = l .production .values; consumption = l .consumption .values })
+    unfit : ℕ
+    unfit = cond (not (suitsb (l .production) (actorAt M (l .actor) .phases))) 5 (cond (not (suitsb (l .consumption) (actorAt M (l .to) .phases))) 5 0)
 
-    ok : Listing
-    ok = record { number = 0; home = home; mode = after }
+    room : (x y z : Bool) (n : ℕ) → leb CHANNELS (M .count) ≡ z → cond x 3 (cond y 3 (cond z 3 n)) ≡ 0 → M .count < CHANNELS
+    room true y z n e q = absurd (omega arith)
+    room false true z n e q = absurd (omega arith)
+    room false false true n e q = absurd (omega arith)
+    room false false false n e q = omega (arith, leb-false CHANNELS (M .count) e)
 
-    end : Bool → Bool → Bool → Bool → Bool → Listing
-    end x y z v w = cond x (refusal 3 M) (cond y (refusal 3 M) (cond z (refusal 3 M) (cond v (refusal 5 M) (cond w (refusal 5 M) ok))))
-
-    go : (x y z v w : Bool) → end x y z v w .number ≡ 0 → (end x y z v w .mode ≡ after) × (end x y z v w .home ≡ home)
-    go true y z v w e = absurd (omega arith)
-    go false true z v w e = absurd (omega arith)
-    go false false true v w e = absurd (omega arith)
-    go false false false true w e = absurd (omega arith)
-    go false false false false true e = absurd (omega arith)
-    go false false false false false e = (refl, refl)
+    go : (k : Kind) → byKind k true false false ≡ false
+        → byKind k (actorListed (M .active) home l) (channelListed (M .active) (M .count) (M .actors) l) 2 ≡ 0
+        → (M .count < CHANNELS) × (withChannel M (wayOf l) ≡ byKind k (withActor M (l .actor) (l .is)) (withChannel M (wayOf l)) M) × (home ≡ byKind k (l .is .processor) home home)
+    go Actor e q = absurd-by (cc)
+    go Channel e q = (room (not (hasb (M .active) (l .actor))) (not (hasb (M .active) (l .to))) (leb CHANNELS (M .count)) unfit refl q, refl, refl)
+    go Bad e q = absurd (omega arith)
 
 -- the table and the homes after a row
 module _ (earlier : List Row) where
-  table-after : (r : Row) → judged earlier (row r) .number ≡ 0 → withMode (tableOf earlier) (lineOf (row r) .mode) (judged earlier (row r) .mode) ≡ tableOf (r ∷ earlier)
+  table-after : (r : Row) → withMode (tableOf earlier) (lineOf (row r) .mode) (judged earlier (row r) .mode) ≡ tableOf (r ∷ earlier)
   unfolding tableOf listed
-  table-after (actor m a p w c) e =
-      ap (withMode (tableOf earlier) (m - 1)) (actor-taken (modeAt (tableOf earlier) (m - 1)) (getD (homesOf earlier) (a - 1) 0) (lineOf (row (actor m a p w c))) e .0)
-  table-after (channel m f u ps cs) e =
-      ap (withMode (tableOf earlier) (m - 1)) (channel-taken (modeAt (tableOf earlier) (m - 1)) (getD (homesOf earlier) (f - 1) 0) (lineOf (row (channel m f u ps cs))) e .0)
+  table-after (actor m a p w c) = refl
+  table-after (channel m f u ps cs) = refl
 
-  homes-after : (r : Row) → judged earlier (row r) .number ≡ 0 → set (homesOf earlier) (lineOf (row r) .actor) (judged earlier (row r) .home) ≡ homesOf (r ∷ earlier)
+  homes-after : (r : Row) → set (homesOf earlier) (lineOf (row r) .actor) (judged earlier (row r) .home) ≡ homesOf (r ∷ earlier)
   unfolding homesOf listed
-  homes-after (actor m a p w c) e =
-      ap (set (homesOf earlier) (a - 1)) (actor-taken (modeAt (tableOf earlier) (m - 1)) (getD (homesOf earlier) (a - 1) 0) (lineOf (row (actor m a p w c))) e .1)
-  homes-after (channel m f u ps cs) e =
-      ap (set (homesOf earlier) (f - 1)) (channel-taken (modeAt (tableOf earlier) (m - 1)) (getD (homesOf earlier) (f - 1) 0) (lineOf (row (channel m f u ps cs))) e .1)
-      ∙ set-getD (homesOf earlier) (f - 1) 0
+  homes-after (actor m a p w c) = refl
+  homes-after (channel m f u ps cs) = set-getD (homesOf earlier) (f - 1) 0
 
 -- a line's places are in range
 pub record Placed (l : Line) : Type 0 where
@@ -247,8 +235,8 @@ module _ {text : List ℕ} {table : Table} {homes : List ℕ} {at count : ℕ} (
                 earlier = q ∷ g .earlier;
                 k = w .0;
                 passed = p;
-                table-is = ap₂ (λ (T : Table) (l : Listing). withMode T (lineOf x .mode) (l .mode)) (g .table-is) sj ∙ ap (λ (y : Parsed). withMode (tableOf (g .earlier)) (lineOf y .mode) (judged (g .earlier) (row q) .mode)) e ∙ table-after (g .earlier) q n;
-                homes-is = ap₂ (λ (hs : List ℕ) (l : Listing). set hs (lineOf x .actor) (l .home)) (g .homes-is) sj ∙ ap (λ (y : Parsed). set (homesOf (g .earlier)) (lineOf y .actor) (judged (g .earlier) (row q) .home)) e ∙ homes-after (g .earlier) q n;
+                table-is = ap₂ (λ (T : Table) (l : Listing). withMode T (lineOf x .mode) (l .mode)) (g .table-is) sj ∙ ap (λ (y : Parsed). withMode (tableOf (g .earlier)) (lineOf y .mode) (judged (g .earlier) (row q) .mode)) e ∙ table-after (g .earlier) q;
+                homes-is = ap₂ (λ (hs : List ℕ) (l : Listing). set hs (lineOf x .actor) (l .home)) (g .homes-is) sj ∙ ap (λ (y : Parsed). set (homesOf (g .earlier)) (lineOf y .actor) (judged (g .earlier) (row q) .home)) e ∙ homes-after (g .earlier) q;
                 count-is = sym row-no;
                 inside = f .good .next-in;
                 few = omega (arith, g .few, f .good .next-in, length-drop at text, length-drop (r .next) text);

@@ -6,12 +6,13 @@ use lib.Dec.{eqb, ltb, leb}
 use lib.ListN.{length, getD, set, replicate}
 use Rattle.numbers.specs.Bits.{hasb}
 use Rattle.terms.specs.Limits.{MODES, ACTORS, CHANNELS, PHASES, MOST-BYTES, MOST-WCET, PROCESSORS}
+use Rattle.graph.specs.declared.shape.Actor.{Actor as Stage}
+use Rattle.graph.specs.declared.shape.Channel.{Channel as Way}
 use Rattle.graph.specs.declared.shape.Mode.{Mode}
-use Rattle.graph.specs.Shape.{noActor, actorAt, modeAt, withActor, withChannel}
+use Rattle.graph.specs.Shape.{noActor, modeAt, withActor, withChannel}
 use Rattle.table.specs.declared.row.Kind.{Kind}
 use Rattle.table.specs.declared.row.Kind.the-variants.{Actor, Channel, Bad}
 use Rattle.table.specs.declared.row.Line.{Line}
-use Rattle.table.specs.declared.row.Listing.{Listing}
 use Rattle.table.specs.declared.rates.Rates.{Rates}
 use Rattle.table.specs.Rows.{Row, actor, channel, actorWord, channelWord}
 use Rattle.table.specs.Told.{Outcome, rows, refused, tableOf}
@@ -87,14 +88,9 @@ lineOf (row (channel m f t ps cs)) =
 lineOf none =
     record { kind = Bad; mode = 0; actor = 0; is = noActor; to = 0; production = ratesIn noRates; consumption = ratesIn noRates }
 
-abbrev pub refusal : ℕ → Mode → Listing
-refusal n m = record { number = n; home = 0; mode = m }
-
-unfoldable pub actorListed : Mode → ℕ → Line → Listing
-actorListed m home l =
-    cond (hasb (m .active) (l .actor)) (refusal 3 m)
-    (cond (not (eqb home 0) && not (eqb home (l .is .processor))) (refusal 4 m)
-    (record { number = 0; home = l .is .processor; mode = withActor m (l .actor) (l .is) }))
+-- the number of the refusal of an actor's row, or 0
+unfoldable pub actorListed : ℕ → ℕ → Line → ℕ
+actorListed active home l = cond (hasb active (l .actor)) 3 (cond (not (eqb home 0) && not (eqb home (l .is .processor))) 4 0)
 
 -- only zeros
 unfoldable pub zeros : List ℕ → Bool
@@ -104,24 +100,40 @@ zeros (x ∷ xs) = eqb x 0 && zeros xs
 abbrev pub suitsb : Rates → ℕ → Bool
 suitsb r p = eqb (r .count) p && not (zeros (r .values))
 
-abbrev pub channelTaken : Mode → ℕ → Line → Listing
-channelTaken m home l =
-    record {
-      number = 0;
-      home = home;
-      mode = withChannel m (record { from = l .actor; to = l .to; production = l .production .values; consumption = l .consumption .values });
-    }
+-- the number of the refusal of a channel's row, or 0
+unfoldable pub channelListed : ℕ → ℕ → List Stage → Line → ℕ
+channelListed active count actors l =
+    cond (not (hasb active (l .actor))) 3
+    (cond (not (hasb active (l .to))) 3
+    (cond (leb CHANNELS count) 3
+    (cond (not (suitsb (l .production) (getD actors (l .actor) noActor .phases))) 5
+    (cond (not (suitsb (l .consumption) (getD actors (l .to) noActor .phases))) 5 0))))
 
-unfoldable pub channelListed : Mode → ℕ → Line → Listing
-channelListed m home l =
-    cond (not (hasb (m .active) (l .actor))) (refusal 3 m)
-    (cond (not (hasb (m .active) (l .to))) (refusal 3 m)
-    (cond (leb CHANNELS (m .count)) (refusal 3 m)
-    (cond (not (suitsb (l .production) (actorAt m (l .actor) .phases))) (refusal 5 m)
-    (cond (not (suitsb (l .consumption) (actorAt m (l .to) .phases))) (refusal 5 m) (channelTaken m home l)))))
+-- the number of a row's refusal, or 0
+abbrev pub refusalOf : ℕ → ℕ → List Stage → ℕ → Line → ℕ
+refusalOf active count actors home l = byKind (l .kind) (actorListed active home l) (channelListed active count actors l) 2
+
+-- whether a row lists an actor
+abbrev pub actorb : Line → Bool
+actorb l = byKind (l .kind) true false false
+
+-- the channel that a row lists
+abbrev pub wayOf : Line → Way
+wayOf l = record { from = l .actor; to = l .to; production = l .production .values; consumption = l .consumption .values }
+
+-- a row: the number of its refusal, or 0; the processor of its actor and the mode after it
+pub record Listing : Type 0 where
+  pub number : ℕ
+  pub home : ℕ
+  pub mode : Mode
 
 unfoldable pub listed : Mode → ℕ → Line → Listing
-listed m home l = byKind (l .kind) (actorListed m home l) (channelListed m home l) (refusal 2 m)
+listed m home l =
+    record {
+      number = refusalOf (m .active) (m .count) (m .actors) home l;
+      home = byKind (l .kind) (l .is .processor) home home;
+      mode = byKind (l .kind) (withActor m (l .actor) (l .is)) (withChannel m (wayOf l)) m;
+    }
 
 -- the processor of each actor that some row lists, and 0 of the others
 unfoldable pub homesOf : List Row → List ℕ

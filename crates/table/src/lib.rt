@@ -1,5 +1,8 @@
 // The reader of tables: RFC 4180 text to modes, or the first refusal of 1 to 5.
 ghost use mathlib.Core.Path.{_≡_};
+ghost use Prim.Native.Nat.{_≤_, _<_};
+ghost use lib.ListN.{length};
+ghost use Rattle.terms.specs.Limits.{MOST-BYTES};
 ghost use Rattle.graph.specs.Shape.{emptyTable};
 ghost use Rattle.table.specs.Told.{Told, readingOf, refused as refusedAt};
 
@@ -43,6 +46,47 @@ pub fn empty() -> Table
     row::nothing()
 }
 
+// Reads the rows of a text.
+fn rows(text: &[u8]) -> Reading
+    requires { ⌜ (0 < length (now text)) × (length (now text) ≤ MOST-BYTES) ⌝ }
+    ensures { λ r. ⌜ Told (now (text .entry)) r ⌝ }
+{
+    let mut table = row::nothing();
+    let mut homes = [0usize; ACTORS];
+    let mut at: usize = 0;
+    let mut row: u64 = 0;
+    while at < text.len() {
+        row += 1;
+        let record = record::record_at(text, at);
+        if !record.good {
+            return refused(1, row);
+        }
+        let line = row::line_of(text, record);
+        let m = line.mode;
+        let a = line.actor;
+        let mut mode = table.modes[m];
+        let actors = mode.actors;
+        let number = row::refusal(mode.active, mode.count, actors, homes[a], line);
+        if number != 0 {
+            return refused(number, row);
+        }
+        if row::lists_actor(line) {
+            let is = line.is;
+            mode.active = numbers::bits::with(mode.active, a);
+            mode.actors[a] = is;
+            homes[a] = is.processor;
+        } else {
+            let count = mode.count;
+            mode.channels[count] = row::way_of(line);
+            mode.count = count + 1;
+        }
+        table.modes[m] = mode;
+        at = record.next;
+    }
+    let answer = Answer::Read;
+    Reading { answer, table }
+}
+
 // Reads a text.
 pub fn read(text: &[u8]) -> Reading
     ensures { λ r. ⌜ Told (now (text .entry)) r ⌝ }
@@ -54,31 +98,5 @@ pub fn read(text: &[u8]) -> Reading
     if MOST_BYTES < length {
         return refused(1, 0);
     }
-    let mut table = row::nothing();
-    let mut homes = [0usize; ACTORS];
-    let mut at: usize = 0;
-    let mut row: u64 = 0;
-    while at < length {
-        row += 1;
-        let record = record::record_at(text, at);
-        if !record.good {
-            return refused(1, row);
-        }
-        let cells = record.cells;
-        let line = row::line_of(text, cells);
-        let m = line.mode;
-        let a = line.actor;
-        let step = row::listed(table.modes[m], homes[a], line);
-        if step.number != 0 {
-            return refused(step.number, row);
-        }
-        homes[a] = step.home;
-        let mode = step.mode;
-        table.modes[m] = mode;
-        at = record.next;
-    }
-    Reading {
-        answer: Answer::Read,
-        table,
-    }
+    rows(text)
 }

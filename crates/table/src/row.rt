@@ -3,11 +3,11 @@ ghost use mathlib.Core.Path.{_≡_};
 ghost use mathlib.Core.List.{map};
 ghost use Prim.Native.Nat.{_^_, _<_};
 ghost use Rattle.numbers.specs.Every.{Every};
-ghost use Rattle.terms.specs.Limits.{ACTORS as ACTORS-LIMIT, CHANNELS as CHANNELS-LIMIT};
+ghost use Rattle.terms.specs.Limits.{ACTORS as ACTORS-LIMIT};
 ghost use Rattle.graph.specs.Shape.{noActor as noActorOf, emptyTable};
 ghost use Rattle.table.specs.Scan.{InText, bytesOf};
 ghost use Rattle.table.specs.Digits.{numberOf, ratesOf, ratesIn};
-ghost use Rattle.table.specs.Judge.{kindOf, actorOf, channelOf, parsedOf, lineOf, none as noRow, refusal, suitsb, actorListed, channelTaken, channelListed, listed as listedOf};
+ghost use Rattle.table.specs.Judge.{kindOf, actorOf, channelOf, parsedOf, lineOf, none as noRow, suitsb, actorListed, channelListed, refusalOf, actorb, wayOf};
 use crate::bytes::same;
 use crate::number::Number;
 use crate::number::number_of;
@@ -15,6 +15,7 @@ use crate::rates;
 use crate::rates::Rates;
 use crate::rates::rates_of;
 use crate::record::Cell;
+use crate::record::Record;
 use graph::shape::Actor;
 use graph::shape::Channel;
 use graph::shape::Mode;
@@ -41,13 +42,6 @@ pub(crate) struct Line {
     pub to: usize,
     pub production: Rates,
     pub consumption: Rates,
-}
-
-// A mode after a row, and the processor of the row's actor; or the number of a refusal.
-pub(crate) struct Listing {
-    pub number: u64,
-    pub home: usize,
-    pub mode: Mode,
 }
 
 fn no_actor() -> Actor
@@ -194,10 +188,11 @@ fn channel_line(s: &[u8], cells: [Cell; 6]) -> Line
     }
 }
 
-pub(crate) fn line_of(s: &[u8], cells: [Cell; 6]) -> Line
-    requires { ⌜ Every (InText (now s)) cells ⌝ }
-    ensures { λ r. ⌜ r ≡ lineOf (parsedOf (map (bytesOf (now (s .entry))) cells)) ⌝ }
+pub(crate) fn line_of(s: &[u8], found: Record) -> Line
+    requires { ⌜ Every (InText (now s)) (found .cells) ⌝ }
+    ensures { λ r. ⌜ r ≡ lineOf (parsedOf (map (bytesOf (now (s .entry))) (found .cells))) ⌝ }
 {
+    let cells = found.cells;
     match kind_in(s, cells[0]) {
         Kind::Actor => actor_line(s, cells),
         Kind::Channel => channel_line(s, cells),
@@ -205,38 +200,20 @@ pub(crate) fn line_of(s: &[u8], cells: [Cell; 6]) -> Line
     }
 }
 
-fn refused(number: u64, mode: Mode) -> Listing
-    ensures { λ r. ⌜ r ≡ refusal number mode ⌝ }
+// The number of the refusal of an actor's row, or 0.
+fn actor_refusal(active: u16, home: usize, line: Line) -> u64
+    ensures { λ r. ⌜ r ≡ actorListed active home line ⌝ }
 {
-    Listing {
-        number,
-        home: 0,
-        mode,
-    }
-}
-
-fn actor_listed(mode: Mode, home: usize, line: Line) -> Listing
-    requires { ⌜ line .actor < ACTORS-LIMIT ⌝ }
-    ensures { λ r. ⌜ r ≡ actorListed mode home line ⌝ }
-{
-    let a = line.actor;
     let is = line.is;
-    if numbers::bits::has(mode.active, a) {
-        return refused(3, mode);
+    if numbers::bits::has(active, line.actor) {
+        return 3;
     }
     if home != 0 {
         if home != is.processor {
-            return refused(4, mode);
+            return 4;
         }
     }
-    let mut next = mode;
-    next.active = numbers::bits::with(next.active, a);
-    next.actors[a] = is;
-    Listing {
-        number: 0,
-        home: is.processor,
-        mode: next,
-    }
+    0
 }
 
 // Whether a list has a rate for each phase, and not only zeros.
@@ -257,66 +234,76 @@ fn suits(rates: Rates, phases: usize) -> bool
     false
 }
 
-// The mode with the channel of a line.
-fn channel_taken(mode: Mode, home: usize, line: Line) -> Listing
-    requires { ⌜ mode .count < CHANNELS-LIMIT ⌝ }
-    ensures { λ r. ⌜ r ≡ channelTaken mode home line ⌝ }
+// The number of the refusal of a channel's row, or 0.
+fn channel_refusal(active: u16, count: usize, actors: [Actor; ACTORS], line: Line) -> u64
+    requires { ⌜ (line .actor < ACTORS-LIMIT) × (line .to < ACTORS-LIMIT) ⌝ }
+    ensures { λ r. ⌜ r ≡ channelListed active count actors line ⌝ }
 {
-    let count = mode.count;
+    let from = line.actor;
+    let to = line.to;
+    if !numbers::bits::has(active, from) {
+        return 3;
+    }
+    if !numbers::bits::has(active, to) {
+        return 3;
+    }
+    if CHANNELS <= count {
+        return 3;
+    }
+    let giver = actors[from];
+    let taker = actors[to];
+    if !suits(line.production, giver.phases) {
+        return 5;
+    }
+    if !suits(line.consumption, taker.phases) {
+        return 5;
+    }
+    0
+}
+
+// The number of a row's refusal, or 0: in a mode with this set of actors, so many channels and these actors, where earlier rows have the actor at `home`.
+pub(crate) fn refusal(
+    active: u16,
+    count: usize,
+    actors: [Actor; ACTORS],
+    home: usize,
+    line: Line,
+) -> u64
+    requires { ⌜ (line .actor < ACTORS-LIMIT) × (line .to < ACTORS-LIMIT) ⌝ }
+    ensures { λ r. ⌜ r ≡ refusalOf active count actors home line ⌝ }
+{
+    let kind = line.kind;
+    match kind {
+        Kind::Actor => actor_refusal(active, home, line),
+        Kind::Channel => channel_refusal(active, count, actors, line),
+        Kind::Bad => 2,
+    }
+}
+
+// Whether a row lists an actor.
+pub(crate) fn lists_actor(line: Line) -> bool
+    ensures { λ r. ⌜ r ≡ actorb line ⌝ }
+{
+    let kind = line.kind;
+    match kind {
+        Kind::Actor => true,
+        Kind::Channel => false,
+        Kind::Bad => false,
+    }
+}
+
+// The channel that a row lists.
+pub(crate) fn way_of(line: Line) -> Channel
+    ensures { λ r. ⌜ r ≡ wayOf line ⌝ }
+{
     let made = line.production;
     let taken = line.consumption;
     let production = made.values;
     let consumption = taken.values;
-    let mut next = mode;
-    next.channels[count] = Channel {
+    Channel {
         from: line.actor,
         to: line.to,
         production,
         consumption,
-    };
-    next.count = count + 1;
-    Listing {
-        number: 0,
-        home,
-        mode: next,
-    }
-}
-
-fn channel_listed(mode: Mode, home: usize, line: Line) -> Listing
-    requires { ⌜ (line .actor < ACTORS-LIMIT) × (line .to < ACTORS-LIMIT) ⌝ }
-    ensures { λ r. ⌜ r ≡ channelListed mode home line ⌝ }
-{
-    let from = line.actor;
-    let to = line.to;
-    let count = mode.count;
-    if !numbers::bits::has(mode.active, from) {
-        return refused(3, mode);
-    }
-    if !numbers::bits::has(mode.active, to) {
-        return refused(3, mode);
-    }
-    if CHANNELS <= count {
-        return refused(3, mode);
-    }
-    let giver = mode.actors[from];
-    let taker = mode.actors[to];
-    if !suits(line.production, giver.phases) {
-        return refused(5, mode);
-    }
-    if !suits(line.consumption, taker.phases) {
-        return refused(5, mode);
-    }
-    channel_taken(mode, home, line)
-}
-
-pub(crate) fn listed(mode: Mode, home: usize, line: Line) -> Listing
-    requires { ⌜ (line .actor < ACTORS-LIMIT) × (line .to < ACTORS-LIMIT) ⌝ }
-    ensures { λ r. ⌜ r ≡ listedOf mode home line ⌝ }
-{
-    let kind = line.kind;
-    match kind {
-        Kind::Actor => actor_listed(mode, home, line),
-        Kind::Channel => channel_listed(mode, home, line),
-        Kind::Bad => refused(2, mode),
     }
 }
