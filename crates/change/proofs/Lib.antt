@@ -2,4 +2,3 @@
 pub mod Loads
 pub mod Offsets
 mod Settled
-mod Worked

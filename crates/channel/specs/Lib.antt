@@ -5,4 +5,3 @@ pub mod Pairs
 pub mod Phases
 pub mod Laws
 pub mod Bounds
-pub mod Examples

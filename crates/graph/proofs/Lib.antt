@@ -9,4 +9,3 @@ mod Shared
 pub mod Judging
 pub mod Unique
 mod Settled
-mod Worked

@@ -3,4 +3,3 @@ pub mod Unique
 pub mod Steps
 pub mod Demand
 mod Settled
-mod Worked

@@ -3,4 +3,3 @@ mod Laying
 mod Digits
 mod Fitting
 mod Settled
-mod Worked

@@ -6,4 +6,3 @@ pub mod Unique
 pub mod Modelled
 pub mod Laws
 mod Settled
-mod Worked

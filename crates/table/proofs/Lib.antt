@@ -4,7 +4,7 @@ pub mod Written
 mod Parsed
 mod Lookup
 mod Judged
-mod Telling
+pub mod Telling
 mod Reread
 mod Kept
 mod Rewritten

@@ -1,4 +1,4 @@
--- Worked texts: the printed example, and texts that a careless reader takes or refuses for another reason. Assumes nothing.
+-- Worked texts that a careless reader takes, or refuses for another reason. Assumes nothing.
 use mathlib.Core.Path.{_≡_, refl, subst}
 use mathlib.Core.List.{List, [], _∷_}
 use Prim.Native.String.{String}
@@ -6,7 +6,7 @@ use Rattle.numbers.specs.Bits.{bit}
 use Rattle.numbers.specs.Every.{Every}
 use Rattle.terms.specs.Text.{bytes}
 use Rattle.table.specs.Bytes.{classOf}
-use Rattle.table.specs.Rows.{actor, channel}
+use Rattle.table.specs.Rows.{actor}
 use Rattle.table.specs.Told.{Outcome, rows, refused, Of, tableOf}
 use Rattle.table.specs.Scan.{plainLen, closed, cellOf, pastComma, pastEnd, cellsFrom}
 use Rattle.table.specs.Digits.{digitOf, digits, written, numberOf, wordLen, ratesFrom, ratesOf}
@@ -21,8 +21,7 @@ record Example : Type 0 where
 -- the rows stand latest first
 examples : List Example
 examples =
-    record { text = "actor,1,1,2,1,1\r\nactor,1,2,1,4,2\r\nactor,1,3,1,1,1\r\nactor,1,5,2,1,1\r\nchannel,1,1,2,1 0,1\r\nchannel,1,2,3,1,1\r\nchannel,1,3,5,1,2 0\r\nactor,2,1,2,1,1\r\nactor,2,2,1,8,2\r\nactor,2,3,1,1,1\r\nactor,2,4,1,3,1\r\nactor,2,5,2,1,1\r\nchannel,2,1,2,1 0,1\r\nchannel,2,1,4,1 1,2\r\nchannel,2,2,3,1,1\r\nchannel,2,3,5,1,1 0\r\nchannel,2,4,5,1,0 1\r\n"; told = rows (channel 2 4 5 (1 ∷ []) (0 ∷ 1 ∷ []) ∷ channel 2 3 5 (1 ∷ []) (1 ∷ 0 ∷ []) ∷ channel 2 2 3 (1 ∷ []) (1 ∷ []) ∷ channel 2 1 4 (1 ∷ 1 ∷ []) (2 ∷ []) ∷ channel 2 1 2 (1 ∷ 0 ∷ []) (1 ∷ []) ∷ actor 2 5 2 1 1 ∷ actor 2 4 1 3 1 ∷ actor 2 3 1 1 1 ∷ actor 2 2 1 8 2 ∷ actor 2 1 2 1 1 ∷ channel 1 3 5 (1 ∷ []) (2 ∷ 0 ∷ []) ∷ channel 1 2 3 (1 ∷ []) (1 ∷ []) ∷ channel 1 1 2 (1 ∷ 0 ∷ []) (1 ∷ []) ∷ actor 1 5 2 1 1 ∷ actor 1 3 1 1 1 ∷ actor 1 2 1 4 2 ∷ actor 1 1 2 1 1 ∷ []) }
-    ∷ record { text = ""; told = refused 1 0 }
+    record { text = ""; told = refused 1 0 }
     ∷ record { text = "actor,1,1,1,7,1"; told = rows (actor 1 1 1 7 1 ∷ []) }
     ∷ record { text = "\"actor\",\"1\",\"1\",\"1\",\"7\",\"1\"\r\n"; told = rows (actor 1 1 1 7 1 ∷ []) }
     ∷ record { text = "\"act\r\nor\",1,1,1,7,1\r\nx,1,1,1,1,1\r\n"; told = refused 2 1 }
@@ -49,4 +48,4 @@ all-told (e ∷ es) h = (subst (Of (bytes (e .text))) (h .0) (reads-of (bytes (e
 
 told-so : Every (λ e. Of (bytes (e .text)) (e .told)) examples
 unfolding examples readOf readFrom cellsFrom cellOf plainLen closed pastComma pastEnd classOf parsedOf actorOf channelOf same numberOf written digits digitOf ratesOf ratesFrom wordLen listed actorListed channelListed zeros homesOf tableOf bit
-told-so = all-told examples (refl, (refl, (refl, (refl, (refl, (refl, (refl, (refl, (refl, (refl, (refl, (refl, (refl, (refl, (refl, (refl, (refl, (refl, (refl, tt)))))))))))))))))))
+told-so = all-told examples (refl, (refl, (refl, (refl, (refl, (refl, (refl, (refl, (refl, (refl, (refl, (refl, (refl, (refl, (refl, (refl, (refl, (refl, tt))))))))))))))))))

@@ -4,6 +4,6 @@ mod Making
 pub mod Unique
 pub mod Bounds
 pub mod Running
-mod Coming
+pub mod Coming
 pub mod Exists
 mod Settled

@@ -1,0 +1,70 @@
+-- What is printed of P8, whose numbers are large. Assumes nothing.
+use mathlib.Core.Path.{_≡_, refl, sym, _∙_}
+use mathlib.Core.List.{List, [], _∷_, _++_, append-nil}
+use Prim.Native.Nat.{ℕ}
+use lib.ListN.{getD}
+use Rattle.numbers.specs.Bits.{bit}
+use Rattle.numbers.specs.Extreme.{mostOf}
+use Rattle.numbers.specs.Sum.{sum}
+use Rattle.numbers.specs.Tab.{tab}
+use Rattle.numbers.specs.Lowest.{lowestOr}
+use Rattle.numbers.specs.Reckoned.{gcdFrom}
+use Rattle.terms.specs.Limits.{MODES, ACTORS}
+use Rattle.terms.specs.Text.{bytes}
+use Rattle.graph.specs.Rounds.{predsFrom, roundFrom, orderFrom, chosen, giversFrom}
+use Rattle.graph.specs.Counts.{entriesFrom, stays, fedOf, countsFrom, balancesb}
+use Rattle.graph.specs.Lengths.{mostFrom, commonFrom, shareFrom}
+use Rattle.graph.specs.Judge.{timedOf, balancedOf, judgeOf}
+use Rattle.channel.specs.Phases.{startOf, sizeOf}
+use Rattle.schedule.specs.Model.{depthFrom, startsFrom, scheduleOf}
+use Rattle.table.specs.Bytes.{classOf}
+use Rattle.table.specs.Digits.{digitOf, digits, written, numberOf, wordLen, ratesFrom, ratesOf}
+use Rattle.table.specs.Judge.{same, actorOf, channelOf, parsedOf, actorListed, channelListed, listed, homesOf, zeros, readFrom, readOf}
+use Rattle.table.specs.Scan.{plainLen, closed, cellOf, pastComma, pastEnd, cellsFrom}
+use Rattle.table.specs.Told.{tableOf}
+use Rattle.table.specs.Writing.{joined}
+use Rattle.table.proofs.Written.{number-iff}
+use Rattle.printer.specs.Laid.{texts}
+use Rattle.printer.specs.Printed.{five, lineText, planText}
+use Rattle.marked.specs.Lines.{textOf}
+use Rattle.marked.proofs.Reckoned.{answerOf, partFor, wholeOf}
+use Rattle.marked.proofs.Claims.{tableIn}
+
+-- lines one behind the other, and nothing behind the last
+abbrev pieces : List (List ℕ) → ℕ → List ℕ
+pieces ls n = texts (λ i. getD ls i []) n
+
+-- the text of two actors and of a channel in mode 1
+abbrev inOne : List ℕ → List ℕ → List ℕ → List ℕ
+inOne a b c = pieces ((pieces (a ∷ b ∷ []) ACTORS ++ pieces (c ∷ []) 1) ∷ []) MODES ++ []
+
+in-one : (a b c : List ℕ) → inOne a b c ≡ (a ++ b) ++ c
+unfolding texts
+in-one a b c = simp append-nil
+
+abbrev text : List ℕ
+text = textOf ("actor,1,1,1,1,1" ∷ "actor,1,2,1,1048576,2" ∷ "channel,1,1,2,16,1" ∷ [])
+
+abbrev actorLine : ℕ → ℕ → ℕ → ℕ → List ℕ
+actorLine i q t s = lineText (bytes "actor") (five 1 i q t s)
+
+printed-lines : planText (tableIn text) (wholeOf (tableIn text)) ≡ inOne (actorLine 1 1 16777216 0) (actorLine 2 16 1048576 16777216) (lineText (bytes "channel") (five 1 1 2 32 16))
+unfolding bit sum tab lowestOr gcdFrom mostOf readOf readFrom cellsFrom cellOf plainLen closed pastComma pastEnd classOf parsedOf actorOf channelOf same numberOf written digits digitOf ratesOf ratesFrom wordLen listed actorListed channelListed zeros homesOf tableOf predsFrom roundFrom orderFrom chosen giversFrom entriesFrom stays fedOf countsFrom balancesb mostFrom commonFrom shareFrom timedOf balancedOf judgeOf startOf sizeOf depthFrom startsFrom scheduleOf answerOf partFor texts
+printed-lines = refl
+
+written-lines : (actorLine 1 1 16777216 0 ++ actorLine 2 16 1048576 16777216) ++ lineText (bytes "channel") (five 1 1 2 32 16)
+    ≡ textOf ("actor,1,1,1,16777216,0" ∷ "actor,1,2,16,1048576,16777216" ∷ "channel,1,1,2,32,16" ∷ [])
+unfolding lineText joined numberOf written digits digitOf
+written-lines =
+    rw (
+      sym (number-iff (bytes "16777216") 0 16777216 16777216 .0 refl .0),
+      sym (number-iff (bytes "1048576") 0 1048576 1048576 .0 refl .0),
+      sym (number-iff (bytes "32") 0 32 32 .0 refl .0),
+      sym (number-iff (bytes "16") 0 16 16 .0 refl .0),
+      sym (number-iff (bytes "2") 0 2 2 .0 refl .0),
+      sym (number-iff (bytes "1") 0 1 1 .0 refl .0),
+      sym (number-iff (bytes "0") 0 0 0 .0 refl .0),
+    ) refl
+
+pub large : planText (tableIn text) (wholeOf (tableIn text)) ≡ textOf ("actor,1,1,1,16777216,0" ∷ "actor,1,2,16,1048576,16777216" ∷ "channel,1,1,2,32,16" ∷ [])
+large = printed-lines ∙ in-one _ _ _ ∙ written-lines

@@ -1,0 +1,6 @@
+-- The theorem of the marked lines, and what it leans on.
+mod Reckoned
+mod Told
+mod Claims
+mod Large
+pub mod Marked

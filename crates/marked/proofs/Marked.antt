@@ -1,0 +1,59 @@
+-- The marked lines of document 01 that have a star, all of them. Assumes nothing.
+use mathlib.Core.Path.{refl}
+use Rattle.numbers.specs.Bits.{bit}
+use Rattle.numbers.specs.Every.{Every}
+use Rattle.numbers.specs.Extreme.{mostOf}
+use Rattle.numbers.specs.Fraction.{sumOf}
+use Rattle.numbers.specs.Sum.{sum}
+use Rattle.numbers.specs.Tab.{tab}
+use Rattle.numbers.specs.Lowest.{lowestOr}
+use Rattle.numbers.specs.Reckoned.{gcdFrom}
+use Rattle.graph.specs.Rounds.{predsFrom, roundFrom, orderFrom, chosen, giversFrom}
+use Rattle.graph.specs.Counts.{entriesFrom, stays, fedOf, countsFrom, balancesb}
+use Rattle.graph.specs.Lengths.{mostFrom, commonFrom, shareFrom}
+use Rattle.graph.specs.Judge.{timedOf, balancedOf, judgeOf}
+use Rattle.channel.specs.Phases.{startOf, sizeOf}
+use Rattle.schedule.specs.Model.{depthFrom, startsFrom, scheduleOf}
+use Rattle.table.specs.Bytes.{classOf}
+use Rattle.table.specs.Decimal.{decimalFrom, decimal}
+use Rattle.table.specs.Digits.{digitOf, digits, written, numberOf, wordLen, ratesFrom, ratesOf}
+use Rattle.table.specs.Judge.{same, actorOf, channelOf, parsedOf, actorListed, channelListed, listed, homesOf, zeros, readFrom, readOf}
+use Rattle.table.specs.Scan.{plainLen, closed, cellOf, pastComma, pastEnd, cellsFrom}
+use Rattle.table.specs.Told.{tableOf}
+use Rattle.table.specs.Writing.{joined}
+use Rattle.run.specs.Machine.{refusal}
+use Rattle.printer.specs.Laid.{texts}
+use Rattle.printer.specs.Printed.{lineText}
+use Rattle.marked.specs.Lines.{Holds, lines}
+use Rattle.marked.proofs.Reckoned.{answerOf, partFor}
+use Rattle.marked.proofs.Told.{Tells}
+use Rattle.marked.proofs.Claims.{all-hold}
+use Rattle.marked.proofs.Large.{large}
+
+-- a row, and the rows behind it
+infixr 30 _&_
+_&_ : {A B : Type 0} → A → B → A × B
+a & b = (a, b)
+
+pub marked : Every Holds lines
+unfolding lines Tells bit sum sumOf tab lowestOr gcdFrom mostOf readOf readFrom cellsFrom cellOf plainLen closed pastComma pastEnd classOf parsedOf actorOf channelOf same numberOf written digits digitOf ratesOf ratesFrom wordLen listed actorListed channelListed zeros homesOf tableOf predsFrom roundFrom orderFrom chosen giversFrom entriesFrom stays fedOf countsFrom balancesb mostFrom commonFrom shareFrom timedOf balancedOf judgeOf startOf sizeOf depthFrom startsFrom scheduleOf answerOf partFor texts lineText joined decimal decimalFrom refusal
+marked =
+    all-hold lines
+    (((tt, refl), refl)
+    & ((tt, refl), refl)
+    & ((tt, refl), refl)
+    & ((tt, refl), refl)
+    & ((tt, refl), refl)
+    & ((tt, refl), refl)
+    & (tt, refl)
+    & ((tt, refl), large)
+    & (tt, refl)
+    & (tt, refl)
+    & (tt, refl)
+    & (tt, tt, refl, refl)
+    & ((tt, refl), tt, (refl, tt))
+    & ((tt, refl), tt, (refl, tt))
+    & ((tt, refl), tt, (refl, tt))
+    & ((tt, refl), tt, (refl, tt))
+    & ((tt, refl), tt, (refl, (refl, (refl, tt))))
+    & tt)

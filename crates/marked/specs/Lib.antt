@@ -1,0 +1,2 @@
+-- The marked lines.
+pub mod Lines
