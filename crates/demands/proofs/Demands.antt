@@ -149,6 +149,7 @@ mode-right {m} {p} q =
     let (s, starts, prompt, times) = scheduled-times (q .scheduled) (q .on-time) in
     subst (ModeRight m) (sym (q .part))
     (record {
+      ends = numbers .ends;
       counts = x;
       smallest = numbers .smallest;
       firings = λ i a. ap (λ (l : List Firing). getD l i (firing 0)) (numbers .firings) ∙ at-actor m (firingsOf m x) (firing 0) i a;
@@ -159,7 +160,10 @@ mode-right {m} {p} q =
       begin = s;
       least = starts;
       starts = λ i a. ap (λ (l : List Tick). getD l i (tick 0)) (times .starts) ∙ at-actor m s (tick 0) i a;
+      startup = times .startup;
+      prompt = prompt;
       sizes = times .sizes .size;
+      tokens = times .tokens;
     })
 
 right : {t : Table} {w : Whole} → Planned t w → Right t w
@@ -194,13 +198,16 @@ pub demand-2 : Demand2
 demand-2 =
     record {
       right = λ p. left-right p refl;
+      accepted = Plans.accepted;
       refused = refuses;
       only-then = λ l p. only-then l p refl;
       no-room = Plans.wrong-length;
-      start-15 = Begins.not-stored;
+      start-15 = λ n b. begins-unique b (Begins.not-stored n);
+      start-11 = λ l m n b. begins-unique b (Begins.not-listed l m n);
+      start-begun = λ l m h b. begins-unique b (Begins.begun l m h);
       request-15 = λ n a. answers-unique a (Answers.not-stored n);
-      request-refused = λ l a e. answers-unique a (Answers.refused l e);
-      delay = λ l a e. ap (λ (x : Answer). x .reply) (answers-unique a (Answers.accepted l e));
+      request-refused = λ l e a. answers-unique a (Answers.refused l e);
+      request-accepted = λ l e a. answers-unique a (Answers.accepted l e);
     }
 
 -- the mode with a number that is listed

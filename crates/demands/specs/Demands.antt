@@ -15,16 +15,17 @@ use Rattle.terms.specs.declared.refusal.Refusal.{Refusal}
 use Rattle.graph.specs.declared.shape.Mode.{Mode}
 use Rattle.graph.specs.declared.shape.Table.{Table}
 use Rattle.graph.specs.Shape.{Active, modeAt, emptyTable}
+use Rattle.graph.specs.Ends.{Ends}
 use Rattle.graph.specs.Balance.{Smallest, Iteration, firingsOf}
 use Rattle.graph.specs.Load.{Overloaded}
 use Rattle.table.specs.declared.Answer.the-variants.{Refused as NotRead}
 use Rattle.table.specs.Told.{Told}
-use Rattle.schedule.specs.Starts.{Starts}
-use Rattle.schedule.specs.Scheduled.{SizeOn}
+use Rattle.schedule.specs.Starts.{Starts, startupOf, Late}
+use Rattle.schedule.specs.Scheduled.{SizeOn, ofChannels, tokensOn}
 use Rattle.change.specs.Change.{Changes}
 use Rattle.whole.specs.declared.Part.{Part}
 use Rattle.whole.specs.declared.Whole.{Whole}
-use Rattle.whole.specs.Whole.{partAt, changeAt, runningOf, Listed, Leads, ModePlanned, ModeRefused}
+use Rattle.whole.specs.Whole.{partAt, changeAt, runningOf, Listed, Leads, ModePlanned, ModeRefused, Planned}
 use Rattle.layout.specs.Words.{WORDS, wordsOf}
 use Rattle.run.specs.Machine as Run
 use Rattle.run.specs.Demand as Run′
@@ -37,7 +38,7 @@ use Rattle.machine.specs.declared.Beginning.{Beginning}
 use Rattle.machine.specs.declared.Beginning.the-variants as Start′
 use Rattle.machine.specs.declared.Reply.the-variants as Request′
 use Rattle.machine.specs.declared.Answer.{Answer}
-use Rattle.machine.specs.Answers.{seen, asking, refusalOf, Begins, Answers, Follows}
+use Rattle.machine.specs.Answers.{seen, asking, machine, refusalOf, refusing, accepting, Meant, Begins, Answers, Follows}
 
 -- ── Demand 1 ──
 -- "Every table and every request gets an answer or a refusal by number, with nothing left for the caller to check first. A refused table leaves the
@@ -73,6 +74,7 @@ pub record Demand1 : Type 0 where
 
 -- what is planned of a mode is what the rules say: with the smallest cycle counts that balance it, and the least starts of its actors
 pub record ModeRight (m : Mode) (p : Part) : Type 0 where
+  pub ends : Ends m (p .source) (p .sink)
   pub counts : ℕ → ℕ
   pub smallest : Smallest m counts
   pub firings : (i : ℕ) → Active m i → getD (p .firings) i (firing 0) ≡ firingsOf m counts i
@@ -83,7 +85,10 @@ pub record ModeRight (m : Mode) (p : Part) : Type 0 where
   pub begin : ℕ → Tick
   pub least : Starts m (p .periods) begin
   pub starts : (i : ℕ) → Active m i → getD (p .starts) i (tick 0) ≡ begin i
+  pub startup : p .startup ≡ startupOf begin (p .sink)
+  pub prompt : (i : ℕ) → Late m begin (p .sink) i → ⊥
   pub sizes : (c : ℕ) → c < m .count → SizeOn m (p .periods) begin c (getD (p .sizes) c (token 0))
+  pub tokens : p .tokens ≡ ofChannels m (tokensOn m (p .firings)) (token 0)
 
 -- and of every mode and every change of a table
 pub record Right (t : Table) (w : Whole) : Type 0 where
@@ -97,22 +102,27 @@ pub data TableRefused (text : List ℕ) : Refusal → Type 0 where
       → ModeRefused (modeAt t k) (suc k) r → TableRefused text r
 
 pub record Demand2 : Type 0 where
-  -- an accepted table leaves a plan whose numbers are right
+  -- an accepted table leaves a plan whose numbers are right ..
   pub right : {text before words : List ℕ} → Plans text before Table′.Accepted words
       → (t : Table) × (w : Whole) × Reads text t × (words ≡ wordsOf t w) × Right t w
+  -- .. and a table that has a plan is accepted
+  pub accepted : {text before : List ℕ} {t : Table} {w : Whole} → length before ≡ WORDS → Reads text t → Planned t w → Plans text before Table′.Accepted (wordsOf t w)
   -- a table is refused when the rules say so, and only then; 15 where the buffer has another length
   pub refused : {text before : List ℕ} {r : Refusal} → length before ≡ WORDS → TableRefused text r → Plans text before (Table′.Refused r) before
   pub only-then : {text before after : List ℕ} {r : Refusal} → length before ≡ WORDS → Plans text before (Table′.Refused r) after → TableRefused text r
   pub no-room : {text before : List ℕ} → (length before ≡ WORDS → ⊥) → Plans text before (Table′.Refused noPlan) before
-  -- a start is refused by 15 where no accepted table leaves the words, and a request too
-  pub start-15 : {words : List ℕ} {mode : ℕ} → (Stored words → ⊥) → Begins words mode (Start′.Refused (refusalOf 15))
-  pub request-15 : {words : List ℕ} {m : Machine} {mode : ℕ} {clock : Tick} {a : Answer} → (Stored words → ⊥) → Answers words m mode clock a
-      → a ≡ record { reply = Request′.Refused (refusalOf 15); machine = m }
-  -- else a request is refused, or told its delay, by the rules of the table's plan
-  pub request-refused : {t : Table} {w : Whole} {words : List ℕ} {m : Machine} {mode n : ℕ} {clock : Tick} {a : Answer} → Leaves t w words → Answers words m mode clock a
-      → Run.refusal (planOf t w) (seen m) (asking mode clock) ≡ suc n → a ≡ record { reply = Request′.Refused (refusalOf (suc n)); machine = m }
-  pub delay : {t : Table} {w : Whole} {words : List ℕ} {m : Machine} {mode : ℕ} {clock : Tick} {a : Answer} → Leaves t w words → Answers words m mode clock a
-      → Run.refusal (planOf t w) (seen m) (asking mode clock) ≡ 0 → a .reply ≡ Request′.Accepted (tick (Run.delay (planOf t w) (seen m) (asking mode clock)))
+  -- a start is refused by 15 where no accepted table leaves the words, then by 11 where the mode that is meant is not in the plan; else a machine begins in it
+  pub start-15 : {words : List ℕ} {mode : ℕ} {b : Beginning} → (Stored words → ⊥) → Begins words mode b → b ≡ Start′.Refused (refusalOf 15)
+  pub start-11 : {t : Table} {w : Whole} {words : List ℕ} {mode k : ℕ} {b : Beginning} → Leaves t w words → Meant t mode k → (T (isListed t k) → ⊥) → Begins words mode b
+      → b ≡ Start′.Refused (refusalOf 11)
+  pub start-begun : {t : Table} {w : Whole} {words : List ℕ} {mode k : ℕ} {b : Beginning} → Leaves t w words → Meant t mode k → T (isListed t k) → Begins words mode b
+      → b ≡ Start′.Begun (machine (Run.begin (planOf t w) k .now))
+  -- a request is refused by 15 likewise; else it is refused, or accepted with its delay and the machine after it, by the rules of the table's plan
+  pub request-15 : {words : List ℕ} {m : Machine} {mode : ℕ} {clock : Tick} {a : Answer} → (Stored words → ⊥) → Answers words m mode clock a → a ≡ refusing m 15
+  pub request-refused : {t : Table} {w : Whole} {words : List ℕ} {m : Machine} {mode n : ℕ} {clock : Tick} {a : Answer} → Leaves t w words
+      → Run.refusal (planOf t w) (seen m) (asking mode clock) ≡ suc n → Answers words m mode clock a → a ≡ refusing m (suc n)
+  pub request-accepted : {t : Table} {w : Whole} {words : List ℕ} {m : Machine} {mode : ℕ} {clock : Tick} {a : Answer} → Leaves t w words
+      → Run.refusal (planOf t w) (seen m) (asking mode clock) ≡ 0 → Answers words m mode clock a → a ≡ accepting (planOf t w) m mode clock
 
 -- ── Demand 3 ──
 -- "For any accepted table, starting mode and request list: if each firing ends within its period, no stage takes a token that isn't there, no buffer holds
