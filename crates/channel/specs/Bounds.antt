@@ -3,15 +3,15 @@ use mathlib.Core.Path.{_≡_, sym, ap, ap₂, subst, subst₂, _∙_}
 use mathlib.Core.Bool.{cond}
 use mathlib.Core.List.{List}
 use Prim.Native.Nat.{ℕ, _+_, _*_, _/_, _^_, _≤_, _<_, zero-le}
-use native.Mathlib.Nat.{le-trans, le-of-dvd, div-le-self, mul-le-mul, mul-le-mul-right, div-mul-le-self, le-refl, le-of-lt, div-mul-cancel, not-suc-le-zero, add-zero, zero-max, max-le, sub-le}
+use native.Mathlib.Nat.{le-trans, le-of-dvd, div-le-self, mul-le-mul, mul-le-mul-right, div-mul-le-self, le-refl, le-of-lt, div-mul-cancel, add-zero, zero-max, max-le, sub-le}
 use native.Mathlib.Omega.{arith}
 use lib.Dec.{eqb}
-use lib.ListN.{length, getD, set, replicate, length-set, length-replicate}
+use lib.ListN.{getD}
 use Rattle.numbers.specs.Common.{IsGcd}
 use Rattle.numbers.specs.Euclid.{gcd-unique}
 use Rattle.numbers.specs.Extreme.{most-same, most-within}
 use Rattle.numbers.specs.Sum.{sum-next}
-use Rattle.numbers.specs.Tab.{filled-more}
+use Rattle.numbers.specs.Filled.{Filled, FilledBy, filled-weaker}
 use Rattle.numbers.specs.Reckoned.{gcd-of}
 use Rattle.units.specs.declared.Tick.{Tick}
 use Rattle.units.specs.declared.Token.{Token}
@@ -100,28 +100,10 @@ pub record Near (m : Mark) : Type 0 where
   pub later : m .later .0 ≤ FAR
   pub sooner : m .sooner .0 ≤ FAR
 
--- an array that has f 0, f 1, .. for the first n phases
-pub record Given {A : Type 0} (z : A) (f : ℕ → A) (n : ℕ) (l : List A) : Type 0 where
-  pub long : length l ≡ PHASES
-  pub each : (s : ℕ) → s < n → getD l s z ≡ f s
-
-module _ {A : Type 0} (z : A) (f : ℕ → A) where
-  pub given-none : Given z f 0 (replicate PHASES z)
-  given-none = record { long = length-replicate PHASES z; each = λ s h. absurd (not-suc-le-zero h) }
-
-  pub given-more : (l : List A) (s : ℕ) (v : A) → s < PHASES → v ≡ f s → Given z f s l → Given z f (s + 1) (set l s v)
-  given-more l s v h e p =
-      record { long = length-set l s v ∙ p .long; each = filled-more f l s v z (omega (arith, p .long)) e (p .each) }
-
--- an array whose first n have the property P
-pub record Ready {A : Type 0} (z : A) (P : A → Type 0) (n : ℕ) (l : List A) : Type 0 where
-  pub long : length l ≡ PHASES
-  pub phases : n ≤ PHASES
-  pub each : (s : ℕ) → s < n → P (getD l s z)
-
--- where every f s has it
-pub given-ready : {A : Type 0} (z : A) (P : A → Type 0) (f : ℕ → A) (n : ℕ) (l : List A) → n ≤ PHASES → ((s : ℕ) → s < n → P (f s)) → Given z f n l → Ready z P n l
-given-ready z P f n l h p g = record { long = g .long; phases = h; each = λ s r. subst P (sym (g .each s r)) (p s r) }
+-- an array that is filled with f 0, f 1, .. of which every one has the property P
+given-ready : {A : Type 0} (z : A) (P : A → Type 0) (f : ℕ → A) (n : ℕ) (l : List A) → ((s : ℕ) → s < n → P (f s)) → FilledBy PHASES f z l n
+    → Filled PHASES (λ s. P) z z l n
+given-ready z P f n l p g = filled-weaker PHASES (λ s v. v ≡ f s) z z (λ s. P) l n (λ s v h e. subst P (sym e) (p s h)) g
 
 module _ (w : Pace) (t : Tick) (n : Token) (h : Short w) (e : Early t n) where
   pub give-near : Near (giveOf w t n)
@@ -163,10 +145,10 @@ module _ (e : End) (s : ℕ) (h : Brief e) (l : s < e .phases) where
   take-early = record { at = omega (arith, ends-by e s h l); tokens = omega (arith, tokens-by e (h .proper) (s + 1) (omega arith)) }
 
 -- the marks of the producer's phases are near
-pub gives-ready : (p : End) (sp : Tick) (w : Pace) (l : List Mark) → Brief p → sp .0 ≤ MOST-START → Short w → Given noMark (giveAt 0 w p sp) (p .phases) l
-    → Ready noMark Near (p .phases) l
+pub gives-ready : (p : End) (sp : Tick) (w : Pace) (l : List Mark) → Brief p → sp .0 ≤ MOST-START → Short w → FilledBy PHASES (giveAt 0 w p sp) noMark l (p .phases)
+    → Filled PHASES (λ s. Near) noMark noMark l (p .phases)
 gives-ready p sp w l h b q =
-    given-ready noMark Near (giveAt 0 w p sp) (p .phases) l (h .proper .phases) (λ s r. give-near w _ _ q (give-early p s h r sp b))
+    given-ready noMark Near (giveAt 0 w p sp) (p .phases) l (λ s r. give-near w _ _ q (give-early p s h r sp b))
 
 pub pace-short : (p c : End) → Paced p c → Short (paceOf p c 1)
 pace-short p c w =
@@ -178,7 +160,7 @@ pace-short p c w =
     }
 
 -- the start from the marks
-pub start-from : (p : End) (sp : Tick) (c : End) (w : Pace) (l : List Mark) → w ≡ paceOf p c 1 → Given noMark (giveAt 0 w p sp) (p .phases) l
+pub start-from : (p : End) (sp : Tick) (c : End) (w : Pace) (l : List Mark) → w ≡ paceOf p c 1 → FilledBy PHASES (giveAt 0 w p sp) noMark l (p .phases)
     → latestOf (λ s. getD l s noMark) (p .phases) w c ≡ startOf 0 p sp c
 unfolding startOf
 start-from p sp c w l e g =
@@ -218,10 +200,10 @@ module _ (e : End) (s : ℕ) (h : Brief e) (l : s < e .phases) (start : Tick) (b
   pub back-early : Early (endsAt start (e .period) (firing s)) (tokensOf (ratesOf e) (firing s))
   back-early = record { at = omega (arith, b, ends-by e s h l); tokens = omega (arith, tokens-by e (h .proper) s (le-of-lt l)) }
 
-pub claims-ready : (p : End) (sp : Tick) (w : Pace) (l : List Hold) → Brief p → sp .0 ≤ MOST-START → Long w → Given noHold (claimingAt w p sp) (p .phases) l
-    → Ready noHold Few (p .phases) l
+pub claims-ready : (p : End) (sp : Tick) (w : Pace) (l : List Hold) → Brief p → sp .0 ≤ MOST-START → Long w → FilledBy PHASES (claimingAt w p sp) noHold l (p .phases)
+    → Filled PHASES (λ s. Few) noHold noHold l (p .phases)
 claims-ready p sp w l h b q =
-    given-ready noHold Few (claimingAt w p sp) (p .phases) l (h .proper .phases) (λ s r. claiming-few w _ _ q (claiming-early p s h r sp b))
+    given-ready noHold Few (claimingAt w p sp) (p .phases) l (λ s r. claiming-few w _ _ q (claiming-early p s h r sp b))
 
 module _ (p : End) (sp : Tick) (c : End) (w : Paced p c) (b : sp .0 ≤ MOST-START) where
   pub cycles-most : cyclesOf p sp ≤ MOST-CYCLES
@@ -241,7 +223,7 @@ present-none : (h : Hold) → present 0 h ≡ h
 present-none h = λ i. record { more = token (add-zero (h .more .0) i); fewer = h .fewer; rest = h .rest }
 
 pub size-from : (p : End) (sp : Tick) (c : End) (sc : Tick) (w : Pace) (l : List Hold) → w ≡ paceOf p c (cyclesOf p sp)
-    → Given noHold (claimingAt w p sp) (p .phases) l
+    → FilledBy PHASES (claimingAt w p sp) noHold l (p .phases)
     → greatestOf (λ s. getD l s noHold) (p .phases) w c sc ≡ sizeOf 0 p sp c sc
 unfolding sizeOf
 size-from p sp c sc w l e g =

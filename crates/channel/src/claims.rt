@@ -11,10 +11,11 @@ use units::Token;
 ghost use mathlib.Core.Path.{_≡_};
 ghost use Prim.Native.Nat.{_≤_};
 ghost use lib.ListN.{getD};
+ghost use Rattle.numbers.specs.Filled.{Filled, FilledBy};
 ghost use Rattle.terms.specs.Limits.{PHASES};
 ghost use Rattle.channel.specs.Flow.{MOST-START};
 ghost use Rattle.channel.specs.Phases.{noHold, claimingOf, claimingAt, backOf, claimOf, heldOf, greatestOf};
-ghost use Rattle.channel.specs.Bounds.{MOST-TOKENS, Brief, Few, Long, Early, Given, Ready};
+ghost use Rattle.channel.specs.Bounds.{MOST-TOKENS, Brief, Few, Long, Early};
 
 // A phase of either end: by how many tokens it makes a claim more and fewer, and the ticks that are left over whole steps.
 pub(crate) struct Hold {
@@ -40,7 +41,7 @@ fn claiming(pace: Pace, by: Tick, made: Token) -> Hold
 // The phases of the producer.
 pub(crate) fn claims(producer: End, start: Tick, pace: Pace) -> [Hold; PHASES]
     requires { ⌜ Brief producer × (start .0 ≤ MOST-START) × Long pace ⌝ }
-    ensures { λ r. ⌜ Given noHold (claimingAt pace producer start) (producer .phases) r ⌝ }
+    ensures { λ r. ⌜ FilledBy PHASES (claimingAt pace producer start) noHold r (producer .phases) ⌝ }
 {
     let rates = producer.rates;
     let period = producer.period;
@@ -90,7 +91,7 @@ fn claim(claiming: Hold, back: Hold, common: Token) -> Token
 
 // The most places that are claimed while a phase of the consumer has not ended.
 fn held(claims: [Hold; PHASES], n: usize, back: Hold, common: Token) -> Token
-    requires { ⌜ Ready noHold Few n claims × Few back × (common .0 ≤ MOST-TOKENS) ⌝ }
+    requires { ⌜ Filled PHASES (λ s. Few) noHold noHold claims n × Few back × (common .0 ≤ MOST-TOKENS) ⌝ }
     ensures { λ r. ⌜ r ≡ heldOf (λ s. getD claims s noHold) n common back ⌝ }
 {
     let mut most = Token(0);
@@ -108,7 +109,7 @@ pub(crate) fn greatest(
     start: Tick,
     pace: Pace,
 ) -> Token
-    requires { ⌜ Ready noHold Few n claims × Brief consumer × (start .0 ≤ MOST-START) × Long pace ⌝ }
+    requires { ⌜ Filled PHASES (λ s. Few) noHold noHold claims n × Brief consumer × (start .0 ≤ MOST-START) × Long pace ⌝ }
     ensures { λ r. ⌜ r ≡ greatestOf (λ s. getD claims s noHold) n pace consumer start ⌝ }
 {
     let rates = consumer.rates;

@@ -11,10 +11,11 @@ use units::Token;
 ghost use mathlib.Core.Path.{_≡_};
 ghost use Prim.Native.Nat.{_≤_};
 ghost use lib.ListN.{getD};
+ghost use Rattle.numbers.specs.Filled.{Filled, FilledBy};
 ghost use Rattle.terms.specs.Limits.{PHASES, ITERATION-LIMIT};
 ghost use Rattle.channel.specs.Flow.{MOST-START};
 ghost use Rattle.channel.specs.Phases.{noMark, giveOf, giveAt, takeOf, waitOf, longestOf, askedBy, latestOf};
-ghost use Rattle.channel.specs.Bounds.{Brief, Near, Short, Early, Given, Ready};
+ghost use Rattle.channel.specs.Bounds.{Brief, Near, Short, Early};
 
 // A phase of either end: by how many ticks it brings a wait later and sooner, and the tokens that are left over whole steps.
 pub(crate) struct Mark {
@@ -40,7 +41,7 @@ fn give(pace: Pace, ends: Tick, short: Token) -> Mark
 // The phases of the producer.
 pub(crate) fn gives(producer: End, start: Tick, pace: Pace) -> [Mark; PHASES]
     requires { ⌜ Brief producer × (start .0 ≤ MOST-START) × Short pace ⌝ }
-    ensures { λ r. ⌜ Given noMark (giveAt 0 pace producer start) (producer .phases) r ⌝ }
+    ensures { λ r. ⌜ FilledBy PHASES (giveAt 0 pace producer start) noMark r (producer .phases) ⌝ }
 {
     let rates = producer.rates;
     let period = producer.period;
@@ -93,7 +94,7 @@ fn wait(give: Mark, take: Mark, step: Tick) -> Tick
 
 // The longest wait of a phase of the consumer.
 fn longest(gives: [Mark; PHASES], n: usize, take: Mark, step: Tick) -> Tick
-    requires { ⌜ Ready noMark Near n gives × Near take × (step .0 ≤ ITERATION-LIMIT) ⌝ }
+    requires { ⌜ Filled PHASES (λ s. Near) noMark noMark gives n × Near take × (step .0 ≤ ITERATION-LIMIT) ⌝ }
     ensures { λ r. ⌜ r ≡ longestOf (λ s. getD gives s noMark) n step take ⌝ }
 {
     let mut longest = Tick(0);
@@ -105,7 +106,7 @@ fn longest(gives: [Mark; PHASES], n: usize, take: Mark, step: Tick) -> Tick
 
 // The start that a phase of the consumer asks, which takes at this rate: none where it takes nothing.
 fn asked(gives: [Mark; PHASES], n: usize, pace: Pace, begins: Tick, rate: u8, taken: Token) -> Tick
-    requires { ⌜ Ready noMark Near n gives × Short pace × Early begins taken ⌝ }
+    requires { ⌜ Filled PHASES (λ s. Near) noMark noMark gives n × Short pace × Early begins taken ⌝ }
     ensures { λ r. ⌜ r ≡ askedBy (λ s. getD gives s noMark) n pace begins rate taken ⌝ }
 {
     if rate == 0 {
@@ -117,7 +118,7 @@ fn asked(gives: [Mark; PHASES], n: usize, pace: Pace, begins: Tick, rate: u8, ta
 
 // The latest start that a phase of the consumer asks.
 pub(crate) fn latest(gives: [Mark; PHASES], n: usize, consumer: End, pace: Pace) -> Tick
-    requires { ⌜ Ready noMark Near n gives × Brief consumer × Short pace ⌝ }
+    requires { ⌜ Filled PHASES (λ s. Near) noMark noMark gives n × Brief consumer × Short pace ⌝ }
     ensures { λ r. ⌜ r ≡ latestOf (λ s. getD gives s noMark) n pace consumer ⌝ }
 {
     let rates = consumer.rates;

@@ -7,6 +7,7 @@ use native.Mathlib.Omega.{arith}
 use borrow.Author.Tests.{eqb-true, eqb-false}
 use lib.Dec.{eqb}
 use lib.ListN.{getD, replicate}
+use Rattle.numbers.specs.Filled.{filled-whole}
 use Rattle.numbers.specs.Tab.{tab, length-tab, getD-tab, getD-replicated}
 use Rattle.terms.specs.Limits.{MODES, LOAD-LIMIT}
 use Rattle.terms.specs.declared.refusal.Place.the-variants.{Mode as AtMode, Actor as AtActor, Processor as AtProcessor}
@@ -35,7 +36,7 @@ use Rattle.whole.specs.declared.Whole.{Whole}
 use Rattle.whole.specs.declared.Answer.{Answer}
 use Rattle.whole.specs.declared.Answer.the-variants.{Planned as IsPlanned, Refused as IsRefused}
 use Rattle.whole.specs.Whole.{noPart, noTiming, emptyPart, emptyWhole, refusal, by-6, by-7, by-8, by-9, by-10, partOf, IsPart, Planned, Planning, refused}
-use Rattle.whole.specs.Steps.{Made, Comes, AnyComes, runningAt, runningsOf, AllReady, Between, ChangeOf}
+use Rattle.whole.specs.Steps.{Comes, AnyComes, runningAt, runningsOf, AllReady, Between, ChangeOf, FoundParts, FoundChanges}
 use Rattle.whole.proofs.Told.{judged-refused, scheduled-late}
 use Rattle.whole.proofs.Running.{all-ready, listed-some}
 use Rattle.whole.proofs.Coming.{any-comes, part-comes, plan-comes}
@@ -137,24 +138,20 @@ module _ (t : Table) (proper : ProperTable t) where
           sym (getD-tab MODES (λ k. answerOf (modeAt t k) (k + 1)) k IsPlanned h)
           ∙ ap (λ (l : List Answer). getD l k IsPlanned) e ∙ getD-replicated MODES k IsPlanned
 
-      made : Made MODES (IsPart t) noPart (partsOf t) MODES
+      made : FoundParts t (partsOf t) MODES
       made =
-          record {
-            long = length-tab MODES _;
-            each = λ k h. subst (IsPart t k) (sym (getD-tab MODES (λ k. partFor (modeAt t k)) k noPart h))
-                (part-comes t proper k h _ _ (any-mode-comes (modeAt t k) (k + 1) (proper .mode k h)) (passes k h));
-          }
+          filled-whole MODES (IsPart t) emptyPart noPart (partsOf t) (length-tab MODES _)
+          (λ k h. subst (IsPart t k) (sym (getD-tab MODES (λ k. partFor (modeAt t k)) k noPart h))
+          (part-comes t proper k h _ _ (any-mode-comes (modeAt t k) (k + 1) (proper .mode k h)) (passes k h)))
 
       ready : AllReady (runningsOf t (partsOf t))
       ready = all-ready t proper (partsOf t) made
 
-      changes : Made (MODES * MODES) (ChangeOf (runningsOf t (partsOf t))) noTiming (changesOf (runningsOf t (partsOf t))) (MODES * MODES)
+      changes : FoundChanges (runningsOf t (partsOf t)) (changesOf (runningsOf t (partsOf t))) (MODES * MODES)
       changes =
-          record {
-            long = length-tab (MODES * MODES) _;
-            each = λ n h. subst (ChangeOf (runningsOf t (partsOf t)) n) (sym (getD-tab (MODES * MODES) _ n noTiming h))
-                (between _ _ _ _ (ready .ready (n / MODES) (omega arith)) (ready .ready (n % MODES) (omega arith)));
-          }
+          filled-whole (MODES * MODES) (ChangeOf (runningsOf t (partsOf t))) noTiming noTiming (changesOf (runningsOf t (partsOf t))) (length-tab (MODES * MODES) _)
+          (λ n h. subst (ChangeOf (runningsOf t (partsOf t)) n) (sym (getD-tab (MODES * MODES) _ n noTiming h))
+          (between _ _ _ _ (ready .ready (n / MODES) (omega arith)) (ready .ready (n % MODES) (omega arith))))
 
   -- one whose mode 1 is refused
   pub first-refused : (r : Refusal) → answerOf (modeAt t 0) 1 ≡ IsRefused r → Planning t (record { answer = IsRefused r; whole = emptyWhole })

@@ -1,10 +1,10 @@
 -- Lists by their elements.
 use mathlib.Core.Path.{_≡_, refl, sym, ap, ap₂, _∙_}
 use mathlib.Core.List.{List, [], _∷_}
-use Prim.Native.Nat.{ℕ, zero, suc, _+_, _≤_, _<_, suc-le-suc}
-use native.Mathlib.Nat.{le-refl, le-of-suc-le-suc, not-suc-le-zero, zero-lt-suc}
+use Prim.Native.Nat.{ℕ, zero, suc, _+_, _<_, suc-le-suc}
+use native.Mathlib.Nat.{le-of-suc-le-suc, not-suc-le-zero, zero-lt-suc}
 use native.Mathlib.Omega.{arith}
-use lib.ListN.{length, getD, set, replicate, length-set, length-replicate}
+use lib.ListN.{length, getD, set, replicate}
 use lib.Seq.{getD-set-same, getD-set-other, ext-getD}
 use borrow.Author.Count.{below-more}
 
@@ -56,30 +56,3 @@ module _ {A : Type 0} where
   getD-replicated zero i a = refl
   getD-replicated (suc n) zero a = refl
   getD-replicated (suc n) (suc i) a = getD-replicated n i a
-
--- the list as it is filled from the front: the first i of its n elements are those of f, and z stands behind them
-pub record Filled {A : Type 0} (n : ℕ) (f : ℕ → A) (z : A) (l : List A) (i : ℕ) : Type 0 where
-  pub long : length l ≡ n
-  pub filled : (k : ℕ) → k < i → getD l k z ≡ f k
-  pub ahead : (k : ℕ) → i ≤ k → getD l k z ≡ z
-
-module _ {A : Type 0} (n : ℕ) (f : ℕ → A) (z : A) where
-  pub filled-none : Filled n f z (replicate n z) 0
-  filled-none =
-      record { long = length-replicate n z; filled = λ k h. absurd (not-suc-le-zero h); ahead = λ k h. getD-replicated n k z }
-
-  -- one element more: set, or already there
-  pub filled-set : (l : List A) (i : ℕ) (v : A) → i < n → v ≡ f i → Filled n f z l i → Filled n f z (set l i v) (i + 1)
-  filled-set l i v h e p =
-      record {
-        long = length-set l i v ∙ p .long;
-        filled = filled-more f l i v z (omega (arith, p .long)) e (p .filled);
-        ahead = λ k g. getD-set-other l i k v z (λ q. omega arith) ∙ p .ahead k (omega arith);
-      }
-
-  pub filled-left : (l : List A) (i : ℕ) → z ≡ f i → Filled n f z l i → Filled n f z l (i + 1)
-  filled-left l i e p =
-      record { long = p .long; filled = below-more _ _ (p .filled) (p .ahead i (le-refl i) ∙ e); ahead = λ k g. p .ahead k (omega arith) }
-
-  pub filled-all : (l : List A) (i : ℕ) → n ≤ i → Filled n f z l i → l ≡ tab n f
-  filled-all l i h p = is-tab n f l z (p .long) (λ k g. p .filled k (omega arith))

@@ -19,8 +19,8 @@ use Rattle.whole.specs.declared.Part.{Part}
 use Rattle.whole.specs.declared.Whole.{Whole}
 use Rattle.whole.specs.declared.Answer.{Answer}
 use Rattle.whole.specs.declared.Answer.the-variants.{Planned as IsPlanned, Refused as IsRefused}
-use Rattle.whole.specs.Whole.{noPart, noTiming, changeAt, Listed, ModeRefused, IsPart, runningOf, IsChange, Planned}
-use Rattle.whole.specs.Steps.{Made, Comes, AnyComes, AllCome, noRunning, runningAt, runningsOf, Between, ChangeOf}
+use Rattle.whole.specs.Whole.{noPart, changeAt, Listed, ModeRefused, IsPart, runningOf, IsChange, Planned}
+use Rattle.whole.specs.Steps.{Comes, AnyComes, AllCome, noRunning, runningAt, runningsOf, Between, FoundParts, FoundChanges}
 use Rattle.whole.proofs.Running.{listed-some, listed-none}
 
 -- a mode that has an actor
@@ -39,7 +39,7 @@ module _ (t : Table) (proper : ProperTable t) (k : ℕ) (l : k < MODES) where
       none h (no n) = absurd (h (listed-some t k proper l n))
 
   -- the modes below are planned
-  pub refusal-comes : (ps : List Part) (a : Answer) (r : Refusal) (p : Part) → Made MODES (IsPart t) noPart ps k → AnyComes (modeAt t k) (k + 1) a p → a ≡ IsRefused r
+  pub refusal-comes : (ps : List Part) (a : Answer) (r : Refusal) (p : Part) → FoundParts t ps k → AnyComes (modeAt t k) (k + 1) a p → a ≡ IsRefused r
       → AllCome t (IsRefused r) ps
   refusal-comes ps a r p made comes e =
       let (some, refused) = subst (λ (a : Answer). AnyComes (modeAt t k) (k + 1) a p) e comes in (
@@ -63,7 +63,7 @@ module _ (t : Table) (proper : ProperTable t) (ps : List Part) (cs : List Timing
         leads-not = λ n. none (λ h. n (listed-some t k proper hk (h .0), listed-some t l proper hl (h .1), h .2));
       }
 
-  pub plan-comes : Made MODES (IsPart t) noPart ps MODES → Made (MODES * MODES) (ChangeOf (runningsOf t ps)) noTiming cs (MODES * MODES) → Planned t whole
+  pub plan-comes : FoundParts t ps MODES → FoundChanges (runningsOf t ps) cs (MODES * MODES) → Planned t whole
   plan-comes parts changes = record { parts-long = parts .long; part = parts .each; changes-long = changes .long; change = at }
     where
       run : (k : ℕ) → k < MODES → runningAt (runningsOf t ps) k ≡ runningOf (modeAt t k) (getD ps k noPart)

@@ -30,11 +30,10 @@ use Rattle.change.specs.Waits.{overlapOf, offsetFrom}
 use Rattle.change.proofs.Offsets.{found}
 use Rattle.whole.specs.declared.Part.{Part}
 use Rattle.whole.specs.declared.Outcome.{Outcome}
-use Rattle.whole.specs.declared.Whole.{Whole}
 use Rattle.whole.specs.Whole.{noPart, noTiming, emptyPart, Listed, ModeRefused, by-6, by-7, by-8, by-9, by-10, partOf, ModePlanned, IsPart, Planning, refused, planned}
-use Rattle.whole.specs.Steps.{Made, runningAt, runningsOf, AllReady, Between, ChangeOf}
+use Rattle.whole.specs.Steps.{runningAt, runningsOf, AllReady, Between, ChangeOf, FoundParts, FoundChanges}
 use Rattle.whole.proofs.Told.{judged-refused, scheduled-late}
-use Rattle.whole.proofs.Making.{made-none, made-set}
+use Rattle.numbers.specs.Filled.{filled-none, filled-set}
 use Rattle.whole.proofs.Unique.{listed-or-not}
 use Rattle.whole.proofs.Running.{all-ready}
 use Rattle.whole.proofs.Coming.{plan-comes}
@@ -81,25 +80,25 @@ change-found old new k l ready-old ready-new = go (ℕ-discrete (old .active) 0)
           ((λ x y z. record { overlap = overlap; offset = offset; worst = refl }), (λ n. absurd (n (a, b, c)))),
         )
 
-changes-found : (rs : List Running) → AllReady rs → (n : ℕ) → n ≤ MODES * MODES → (cs : List Timing) × Made (MODES * MODES) (ChangeOf rs) noTiming cs n
-changes-found rs ready zero h = (_, made-none (MODES * MODES) (ChangeOf rs) noTiming noTiming)
+changes-found : (rs : List Running) → AllReady rs → (n : ℕ) → n ≤ MODES * MODES → (cs : List Timing) × FoundChanges rs cs n
+changes-found rs ready zero h = (_, filled-none (MODES * MODES) (ChangeOf rs) noTiming noTiming)
 changes-found rs ready (suc n) h =
     let (cs, made) = changes-found rs ready n (omega arith) in
     let (c, is) = change-found (runningAt rs (n / MODES)) (runningAt rs (n % MODES)) (n / MODES) (n % MODES) (ready .ready (n / MODES) (omega arith)) (ready .ready (n % MODES) (omega arith)) in
-    (set cs n c, subst (Made (MODES * MODES) (ChangeOf rs) noTiming (set cs n c)) (add-one n) (made-set (MODES * MODES) (ChangeOf rs) noTiming cs n c h is made))
+    (set cs n c, subst (FoundChanges rs (set cs n c)) (add-one n) (filled-set (MODES * MODES) (ChangeOf rs) noTiming noTiming cs n c h is made))
 
 module _ (t : Table) (proper : ProperTable t) where
   -- the modes below k have their parts, or the lowest that is refused refuses the table
-  parts-found : (k : ℕ) → k ≤ MODES → ((ps : List Part) × Made MODES (IsPart t) noPart ps k) ⊎ ((x : Outcome) × Planning t x)
-  parts-found zero h = inl (_, made-none MODES (IsPart t) noPart emptyPart)
+  parts-found : (k : ℕ) → k ≤ MODES → ((ps : List Part) × FoundParts t ps k) ⊎ ((x : Outcome) × Planning t x)
+  parts-found zero h = inl (_, filled-none MODES (IsPart t) emptyPart noPart)
   parts-found (suc k) h = go (parts-found k (omega arith)) (listed-or-not t k h) (mode-decided (modeAt t k) (suc k) (proper .mode k h))
     where
-      more : (ps : List Part) (p : Part) → Made MODES (IsPart t) noPart ps k → IsPart t k p → Made MODES (IsPart t) noPart (set ps k p) (suc k)
-      more ps p made is = subst (Made MODES (IsPart t) noPart (set ps k p)) (add-one k) (made-set MODES (IsPart t) noPart ps k p h is made)
+      more : (ps : List Part) (p : Part) → FoundParts t ps k → IsPart t k p → FoundParts t (set ps k p) (suc k)
+      more ps p made is = subst (FoundParts t (set ps k p)) (add-one k) (filled-set MODES (IsPart t) emptyPart noPart ps k p h is made)
 
-      go : ((ps : List Part) × Made MODES (IsPart t) noPart ps k) ⊎ ((x : Outcome) × Planning t x) → Dec (Listed t k)
+      go : ((ps : List Part) × FoundParts t ps k) ⊎ ((x : Outcome) × Planning t x) → Dec (Listed t k)
           → ((p : Part) × ModePlanned (modeAt t k) p) ⊎ ((r : Refusal) × ModeRefused (modeAt t k) (suc k) r)
-          → ((ps : List Part) × Made MODES (IsPart t) noPart ps (suc k)) ⊎ ((x : Outcome) × Planning t x)
+          → ((ps : List Part) × FoundParts t ps (suc k)) ⊎ ((x : Outcome) × Planning t x)
       go (inr x) l d = inr x
       go (inl (ps, made)) (no n) d = inl (set ps k emptyPart, more ps emptyPart made (record { listed = λ l. absurd (n l); unlisted = λ l. refl }))
       go (inl (ps, made)) (yes l) (inl (p, is)) = inl (set ps k p, more ps p made (record { listed = λ l. is; unlisted = λ n. absurd (n l) }))
@@ -108,7 +107,7 @@ module _ (t : Table) (proper : ProperTable t) where
   pub planning-exists : (x : Outcome) × Planning t x
   planning-exists = go (parts-found MODES (le-refl MODES))
     where
-      go : ((ps : List Part) × Made MODES (IsPart t) noPart ps MODES) ⊎ ((x : Outcome) × Planning t x) → (x : Outcome) × Planning t x
+      go : ((ps : List Part) × FoundParts t ps MODES) ⊎ ((x : Outcome) × Planning t x) → (x : Outcome) × Planning t x
       go (inr x) = x
       go (inl (ps, made)) =
           let (cs, changes) = changes-found (runningsOf t ps) (all-ready t proper ps made) (MODES * MODES) (le-refl (MODES * MODES)) in

@@ -1,6 +1,5 @@
 -- What the proofs lean on.
 pub mod Told
-mod Making
 pub mod Unique
 pub mod Bounds
 pub mod Running

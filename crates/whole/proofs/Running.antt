@@ -2,7 +2,7 @@
 use mathlib.Core.Path.{_≡_, refl, sym, ap, subst, _∙_}
 use mathlib.Core.Bool.{Bool, true, false, cond, _&&_}
 use mathlib.Core.List.{List}
-use mathlib.Core.Logic.{_⊎_, ⊎-elim}
+use mathlib.Core.Logic.{⊎-elim}
 use Prim.Native.Nat.{ℕ, _≤_, _<_, zero-le}
 use native.Mathlib.Nat.{lt-of-not-le, lt-of-lt-of-le, mul-comm}
 use native.Mathlib.Omega.{arith}
@@ -33,7 +33,7 @@ use Rattle.change.specs.Work.{Fitting}
 use Rattle.change.specs.Change.{askedBy as asked, askedOf, Bearable, Ready}
 use Rattle.whole.specs.declared.Part.{Part}
 use Rattle.whole.specs.Whole.{noPart, partOf as planOf, Listed, ModePlanned, IsPart, runningOf}
-use Rattle.whole.specs.Steps.{Made, noRunning, idleRunning, runningsOf, AllReady}
+use Rattle.whole.specs.Steps.{noRunning, idleRunning, runningsOf, AllReady, FoundParts}
 use Rattle.whole.proofs.Told.{judged-sound, scheduled-times}
 use Rattle.whole.proofs.Bounds.{START-LIMIT, mode-small, part-small}
 
@@ -133,7 +133,7 @@ module _ (t : Table) (proper : ProperTable t) where
       rw (is .unlisted (λ w. listed-none t k w e), e, actors)
 
   -- all modes of a plan that have an actor
-  pub all-ready : (ps : List Part) → Made MODES (IsPart t) noPart ps MODES → AllReady (runningsOf t ps)
+  pub all-ready : (ps : List Part) → FoundParts t ps MODES → AllReady (runningsOf t ps)
   all-ready ps made =
       record {
         long = length-tab MODES _;

@@ -1,8 +1,9 @@
 -- Model of the code: lists whose elements are found one by one, the parts of a table, and the modes as they run.
 use mathlib.Core.Path.{_≡_}
 use mathlib.Core.List.{List, []}
-use Prim.Native.Nat.{ℕ, suc, _/_, _%_, _<_}
+use Prim.Native.Nat.{ℕ, suc, _*_, _/_, _%_, _<_}
 use lib.ListN.{length, getD}
+use Rattle.numbers.specs.Filled.{Filled}
 use Rattle.numbers.specs.Tab.{tab}
 use Rattle.units.specs.Ticks.{tick}
 use Rattle.terms.specs.Limits.{MODES}
@@ -17,10 +18,9 @@ use Rattle.whole.specs.declared.Answer.{Answer}
 use Rattle.whole.specs.declared.Answer.the-variants.{Planned as IsPlanned, Refused as IsRefused}
 use Rattle.whole.specs.Whole.{noPart, noTiming, emptyPart, Listed, ModeRefused, ModePlanned, IsPart, runningOf}
 
--- a list of n elements, of which the first i are what P asks of them
-pub record Made {A : Type 0} (n : ℕ) (P : ℕ → A → Type 0) (z : A) (l : List A) (i : ℕ) : Type 0 where
-  pub long : length l ≡ n
-  pub each : (k : ℕ) → k < i → P k (getD l k z)
+-- the parts of the modes below k are found
+abbrev pub FoundParts : Table → List Part → ℕ → Type 0
+FoundParts t ps k = Filled MODES (IsPart t) emptyPart noPart ps k
 
 -- what comes of the listed mode with number n: its part, or its refusal
 abbrev pub Comes : Mode → ℕ → Answer → Part → Type 0
@@ -34,7 +34,7 @@ AnyComes m n (IsRefused r) p = (m .active ≡ 0 → ⊥) × ModeRefused m n r
 
 -- what comes of all modes: their parts, or the refusal of the lowest that is refused
 abbrev pub AllCome : Table → Answer → List Part → Type 0
-AllCome t IsPlanned ps = Made MODES (IsPart t) noPart ps MODES
+AllCome t IsPlanned ps = FoundParts t ps MODES
 AllCome t (IsRefused r) ps =
     (k : ℕ) × Listed t k × ((l : ℕ) → l < k → Listed t l → (p : Part) × ModePlanned (modeAt t l) p) × ModeRefused (modeAt t k) (suc k) r
 
@@ -77,3 +77,7 @@ Between old new k l c =
 -- at place n of all pairs
 abbrev pub ChangeOf : List Running → ℕ → Timing → Type 0
 ChangeOf rs n c = Between (runningAt rs (n / MODES)) (runningAt rs (n % MODES)) (n / MODES) (n % MODES) c
+
+-- the changes at the places below n are found
+abbrev pub FoundChanges : List Running → List Timing → ℕ → Type 0
+FoundChanges rs cs n = Filled (MODES * MODES) (ChangeOf rs) noTiming noTiming cs n

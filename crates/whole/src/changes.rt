@@ -15,8 +15,8 @@ ghost use Prim.Native.Nat.{_*_};
 ghost use Rattle.terms.specs.Limits.{MODES};
 ghost use Rattle.graph.specs.Proper.{ProperTable};
 ghost use Rattle.change.specs.Change.{Ready};
-ghost use Rattle.whole.specs.Whole.{noPart, noTiming, IsPart};
-ghost use Rattle.whole.specs.Steps.{Made, idleRunning, runningsOf, AllReady, Between, ChangeOf};
+ghost use Rattle.whole.specs.Whole.{noTiming};
+ghost use Rattle.whole.specs.Steps.{idleRunning, runningsOf, AllReady, Between, FoundParts, FoundChanges};
 
 // No change.
 pub(crate) fn none() -> Timing
@@ -53,7 +53,7 @@ fn idle() -> Running
 
 // The modes of a table with these parts, as they run.
 pub(crate) fn runnings_of(table: Table, parts: [Part; MODES]) -> [Running; MODES]
-    requires { ⌜ ProperTable table × Made MODES (IsPart table) noPart parts MODES ⌝ }
+    requires { ⌜ ProperTable table × FoundParts table parts MODES ⌝ }
     ensures { λ r. ⌜ r ≡ runningsOf table parts ⌝ }
 {
     let mut runnings = [idle(); MODES];
@@ -99,7 +99,7 @@ fn between(old: Running, new: Running, k: usize, l: usize) -> Timing
 // The changes between all pairs of modes.
 pub(crate) fn changes_of(runnings: [Running; MODES]) -> [Timing; 64]
     requires { ⌜ AllReady runnings ⌝ }
-    ensures { λ r. ⌜ Made (MODES * MODES) (ChangeOf runnings) noTiming r (MODES * MODES) ⌝ }
+    ensures { λ r. ⌜ FoundChanges runnings r (MODES * MODES) ⌝ }
 {
     let mut changes = [none(); 64];
     for n in 0..64 {

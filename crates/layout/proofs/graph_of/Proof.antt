@@ -2,10 +2,10 @@
 use borrow.Author.Needs.{needs}
 use mathlib.Core.Path.{ap, _∙_}
 use mathlib.Core.List.{List}
-use Prim.Native.Nat.{_≤_, _-_}
+use Prim.Native.Nat.{_-_}
 use native.Mathlib.Omega.{arith}
 use lib.ListN.{length-take, length-drop}
-use Rattle.numbers.specs.Tab.{Filled, filled-none, filled-set, filled-all}
+use Rattle.numbers.specs.Filled.{FilledBy, filled-none, filled-set, filled-all}
 use Rattle.terms.specs.Limits.{MODES}
 use Rattle.graph.specs.declared.shape.Mode.{Mode}
 use Rattle.graph.specs.declared.shape.Table.{Table}
@@ -18,24 +18,24 @@ use Rattle.layout.proofs.graph_of.Statement.{statement}
 use Rattle.layout.proofs.graph_of.Tie as tie
 
 abbrev Inv-loop : tie.InvT-loop
-Inv-loop words modes₀ m₀ modes m = (m ≤ MODES) × Filled MODES (λ j. modeOf (part MODE-WORDS j words)) emptyMode modes m
+Inv-loop words modes₀ m₀ modes m = FilledBy MODES (λ j. modeOf (part MODE-WORDS j words)) emptyMode modes m
 
 abbrev μ-loop : tie.MeasureT-loop
 μ-loop words modes₀ m₀ modes m = MODES - m
 
 loop-holds : tie.Need-loop-holds Inv-loop μ-loop
-loop-holds c = (omega arith, simp (c .no-mode .ensures) (filled-none MODES _ emptyMode))
+loop-holds c = simp (c .no-mode .ensures) (filled-none MODES _ emptyMode emptyMode)
 
 loop-again : tie.Need-loop-again Inv-loop μ-loop
 loop-again c =
     let l = c .before .before .before .loop in
-    (omega arith, filled-set MODES _ emptyMode _ (l .m) _ (omega arith) (c .mode-of .ensures ∙ ap modeOf (part-is MODE-WORDS (l .m) _)) (l .inv .1))
+    filled-set MODES _ emptyMode emptyMode _ (l .m) _ (omega arith) (c .mode-of .ensures ∙ ap modeOf (part-is MODE-WORDS (l .m) _)) (l .inv)
 
 returns : tie.Need-returns Inv-loop μ-loop
 unfolding graphOf
 returns c =
     ap (λ (l : List Mode). let t : Table = record { modes = l } in t)
-    (filled-all MODES _ emptyMode _ (c .before .loop .m) (omega arith) (c .before .loop .inv .1))
+    (filled-all MODES _ emptyMode _ (c .before .loop .m) (omega arith) (c .before .loop .inv))
 
 pub graph-of-spec : {M : Type 1} → statement M
 graph-of-spec =

@@ -6,8 +6,8 @@ use Prim.Native.Nat.{_*_}
 use Rattle.terms.specs.Limits.{MODES}
 use Rattle.change.specs.declared.Running.{Running}
 use Rattle.whole.specs.declared.Answer.{Answer}
-use Rattle.whole.specs.Whole.{noPart, noTiming, IsPart, Planning, refused, planned}
-use Rattle.whole.specs.Steps.{Made, AllCome, AllReady, ChangeOf}
+use Rattle.whole.specs.Whole.{Planning, refused, planned}
+use Rattle.whole.specs.Steps.{AllCome, AllReady, FoundParts, FoundChanges}
 use Rattle.whole.proofs.Running.{all-ready}
 use Rattle.whole.proofs.Coming.{plan-comes}
 use Rattle.whole.proofs.plan_of.Statement.{statement}
@@ -21,7 +21,7 @@ refusal c =
     let (k, listed, below, by) = subst (λ (a : Answer). AllCome (m .before .args .table) a (m .parts-of .result .parts)) (d .answer .given .1) (m .parts-of .ensures) in
     subst (Planning (m .before .args .table)) (sym (c .refused .ensures)) (refused listed below by)
 
-parts : (c : tie.After-enum-told) → Made MODES (IsPart (c .before .before .before .args .table)) noPart (c .before .before .parts-of .result .parts) MODES
+parts : (c : tie.After-enum-told) → FoundParts (c .before .before .before .args .table) (c .before .before .parts-of .result .parts) MODES
 parts c =
     let m = c .before .before in
     subst (λ (a : Answer). AllCome (m .before .args .table) a (m .parts-of .result .parts)) (c .enum-told .given .1) (m .parts-of .ensures)
@@ -32,7 +32,7 @@ plan c =
     let m = r .before .before in
     let s = m .before .before .before in
     planned (plan-comes (s .args .table) (s .pre) _ (c .changes-of .result) (parts m)
-    (subst (λ (l : List Running). Made (MODES * MODES) (ChangeOf l) noTiming (c .changes-of .result) (MODES * MODES)) (r .runnings-of .ensures) (c .changes-of .ensures)))
+    (subst (λ (l : List Running). FoundChanges l (c .changes-of .result) (MODES * MODES)) (r .runnings-of .ensures) (c .changes-of .ensures)))
 
 pub plan-of-spec : {M : Type 1} → statement M
 plan-of-spec =

@@ -1,8 +1,8 @@
 -- change::work::untils meets its contract. The invariant: the works of the actors below i are in place. Assumes nothing.
 use borrow.Author.Needs.{needs}
-use Prim.Native.Nat.{_-_, _≤_}
+use Prim.Native.Nat.{_-_}
 use native.Mathlib.Omega.{arith}
-use Rattle.numbers.specs.Tab.{Filled, filled-none, filled-set, filled-all}
+use Rattle.numbers.specs.Filled.{FilledBy, filled-none, filled-set, filled-all}
 use Rattle.terms.specs.Limits.{ACTORS}
 use Rattle.units.specs.Ticks.{tick}
 use Rattle.change.specs.Work.{actorAt, tickAt, workBetween}
@@ -11,7 +11,7 @@ use Rattle.change.proofs.work.untils.Tie as tie
 
 abbrev Inv-loop : tie.InvT-loop
 Inv-loop firings actors starts until₀ i₀ until i =
-    (i ≤ ACTORS) × Filled ACTORS (λ i. workBetween actors firings starts (actorAt actors i .processor) (tick 0) (tickAt starts i)) (tick 0) until i
+    FilledBy ACTORS (λ i. workBetween actors firings starts (actorAt actors i .processor) (tick 0) (tickAt starts i)) (tick 0) until i
 
 abbrev μ-loop : tie.MeasureT-loop
 μ-loop firings actors starts until₀ i₀ until i = ACTORS - i
@@ -19,10 +19,10 @@ abbrev μ-loop : tie.MeasureT-loop
 loop-again : tie.Need-loop-again Inv-loop μ-loop
 loop-again c =
     let l = c .before .before .before .before .loop in
-    (omega arith, filled-set _ _ _ (l .until) (l .i) _ (omega arith) (c .work-between .ensures) (l .inv .1))
+    filled-set _ _ _ _ (l .until) (l .i) _ (omega arith) (c .work-between .ensures) (l .inv)
 
 returns : tie.Need-returns Inv-loop μ-loop
-returns c = filled-all _ _ _ _ (c .before .loop .i) (omega arith) (c .before .loop .inv .1)
+returns c = filled-all _ _ _ _ (c .before .loop .i) (omega arith) (c .before .loop .inv)
 
 pub untils-spec : {M : Type 1} → statement M
 untils-spec =
@@ -30,7 +30,7 @@ untils-spec =
     (tie.spec
     Inv-loop
     μ-loop
-    (λ c. (omega arith, filled-none ACTORS _ (tick 0)))
+    (λ c. filled-none ACTORS _ (tick 0) (tick 0))
     (λ c. search needs)
     (λ c. search needs)
     (λ c. search needs)

@@ -11,20 +11,22 @@ use Rattle.terms.specs.Period.{firing}
 use Rattle.terms.specs.Rate.{tokensOf}
 use Rattle.channel.specs.Flow.{ratesOf}
 use Rattle.channel.specs.Phases.{noHold, claimingOf, claimingAt}
-use Rattle.channel.specs.Bounds.{endOf, Early, Given, given-none, given-more, claiming-early, ends-by, tokens-by, rate-by, tokens-next}
+use Rattle.numbers.specs.Filled.{FilledBy, filled-none, filled-set}
+use Rattle.terms.specs.Limits.{PHASES}
+use Rattle.channel.specs.Bounds.{endOf, Early, claiming-early, ends-by, tokens-by, rate-by, tokens-next}
 use Rattle.channel.proofs.claims.claims.Statement.{statement}
 use Rattle.channel.proofs.claims.claims.Tie as tie
 
 abbrev Inv-loop : tie.InvT-loop
 Inv-loop start pace rates period n holds₀ made₀ s₀ holds made s =
-    (s ≤ n) × Given noHold (claimingAt pace (endOf rates period n) start) s holds × (made ≡ tokensOf (ratesOf (endOf rates period n)) (firing s))
+    (s ≤ n) × FilledBy PHASES (claimingAt pace (endOf rates period n) start) noHold holds s × (made ≡ tokensOf (ratesOf (endOf rates period n)) (firing s))
 
 abbrev μ-loop : tie.MeasureT-loop
 μ-loop start pace rates period n holds₀ made₀ s₀ holds made s = n - s
 
 loop-holds : tie.Need-loop-holds Inv-loop μ-loop
 unfolding sum
-loop-holds c = (omega arith, given-none noHold (claimingAt (c .before .before .args .pace) (c .before .before .args .producer) (c .before .before .args .start)), refl)
+loop-holds c = (omega arith, filled-none PHASES _ noHold noHold, refl)
 
 added-requires : tie.Need-added-requires Inv-loop μ-loop
 added-requires c κs =
@@ -73,7 +75,7 @@ loop-again c =
     let p = t .args .producer in
     let made = tokens-next p (t .pre .0 .proper) (l .loop .s) (omega arith) (l .loop .inv .2) (m .moved .ensures) (b .before .added .ensures) in (
       omega arith,
-      given-more noHold (claimingAt (t .args .pace) p (t .args .start)) (l .loop .holds) (l .loop .s) (c .claiming .result) (omega (arith, t .pre .0 .proper .phases))
+      filled-set PHASES _ noHold noHold (l .loop .holds) (l .loop .s) (c .claiming .result) (omega (arith, t .pre .0 .proper .phases))
           (c .claiming .ensures ∙ ap₂ (claimingOf (t .args .pace)) (c .before .plus .ensures ∙ ap (λ (x : Tick). plusOf x (tick 1)) (b .begins .ensures)) made)
           (l .loop .inv .1),
       made,
@@ -83,7 +85,7 @@ returns : tie.Need-returns Inv-loop μ-loop
 returns c =
     let t = c .before .before .before .before in
     let e : c .before .loop .s ≡ t .args .producer .phases = omega arith in
-    subst (λ (n : ℕ). Given noHold (claimingAt (t .args .pace) (t .args .producer) (t .args .start)) n (c .before .loop .holds)) e (c .before .loop .inv .1)
+    subst (λ (n : ℕ). FilledBy PHASES (claimingAt (t .args .pace) (t .args .producer) (t .args .start)) noHold (c .before .loop .holds) n) e (c .before .loop .inv .1)
 
 pub claims-spec : {M : Type 1} → statement M
 claims-spec =

@@ -47,8 +47,8 @@ held-spec =
     Inv-loop
     μ-loop
     loop-holds
-    (λ c. omega (arith, c .before .before .pre .0 .phases))
-    (λ c. omega (arith, c .before .before .pre .0 .phases))
+    (λ c. omega (arith, c .before .before .pre .0 .within))
+    (λ c. omega (arith, c .before .before .pre .0 .within))
     claim-requires
     (λ c κs. search needs)
     (λ c. omega arith)

@@ -11,20 +11,22 @@ use Rattle.terms.specs.Period.{firing}
 use Rattle.terms.specs.Rate.{tokensOf}
 use Rattle.channel.specs.Flow.{ratesOf}
 use Rattle.channel.specs.Phases.{noMark, giveOf, giveAt}
-use Rattle.channel.specs.Bounds.{endOf, Early, Given, given-none, given-more, give-early, ends-by, tokens-by, rate-by, tokens-next}
+use Rattle.numbers.specs.Filled.{FilledBy, filled-none, filled-set}
+use Rattle.terms.specs.Limits.{PHASES}
+use Rattle.channel.specs.Bounds.{endOf, Early, give-early, ends-by, tokens-by, rate-by, tokens-next}
 use Rattle.channel.proofs.waits.gives.Statement.{statement}
 use Rattle.channel.proofs.waits.gives.Tie as tie
 
 abbrev Inv-loop : tie.InvT-loop
 Inv-loop start pace rates period n marks₀ made₀ s₀ marks made s =
-    (s ≤ n) × Given noMark (giveAt 0 pace (endOf rates period n) start) s marks × (made ≡ tokensOf (ratesOf (endOf rates period n)) (firing s))
+    (s ≤ n) × FilledBy PHASES (giveAt 0 pace (endOf rates period n) start) noMark marks s × (made ≡ tokensOf (ratesOf (endOf rates period n)) (firing s))
 
 abbrev μ-loop : tie.MeasureT-loop
 μ-loop start pace rates period n marks₀ made₀ s₀ marks made s = n - s
 
 loop-holds : tie.Need-loop-holds Inv-loop μ-loop
 unfolding sum
-loop-holds c = (omega arith, given-none noMark (giveAt 0 (c .before .before .args .pace) (c .before .before .args .producer) (c .before .before .args .start)), refl)
+loop-holds c = (omega arith, filled-none PHASES _ noMark noMark, refl)
 
 ends-requires : tie.Need-ends-requires Inv-loop μ-loop
 ends-requires c κs =
@@ -68,7 +70,7 @@ loop-again c =
     let t = l .before .before .before in
     let p = t .args .producer in (
       omega arith,
-      given-more noMark (giveAt 0 (t .args .pace) p (t .args .start)) (l .loop .marks) (l .loop .s) (g .give .result) (omega (arith, t .pre .0 .proper .phases))
+      filled-set PHASES _ noMark noMark (l .loop .marks) (l .loop .s) (g .give .result) (omega (arith, t .pre .0 .proper .phases))
           (g .give .ensures ∙ ap₂ (giveOf (t .args .pace)) (g .before .before .ends .ensures) (g .before .added .ensures ∙ ap (λ (x : Token). addedOf x (token 1)) (l .loop .inv .2)))
           (l .loop .inv .1),
       tokens-next p (t .pre .0 .proper) (l .loop .s) (omega arith) (l .loop .inv .2) (c .before .moved .ensures) (c .added2 .ensures),
@@ -78,7 +80,7 @@ returns : tie.Need-returns Inv-loop μ-loop
 returns c =
     let t = c .before .before .before .before in
     let e : c .before .loop .s ≡ t .args .producer .phases = omega arith in
-    subst (λ (n : ℕ). Given noMark (giveAt 0 (t .args .pace) (t .args .producer) (t .args .start)) n (c .before .loop .marks)) e (c .before .loop .inv .1)
+    subst (λ (n : ℕ). FilledBy PHASES (giveAt 0 (t .args .pace) (t .args .producer) (t .args .start)) noMark (c .before .loop .marks) n) e (c .before .loop .inv .1)
 
 pub gives-spec : {M : Type 1} → statement M
 gives-spec =

@@ -1,11 +1,11 @@
 -- graph::iteration::firings_of meets its contract. The invariant: the firings of the actors below i are set. Assumes nothing.
 use borrow.Author.Needs.{needs}
 use mathlib.Core.Path.{refl}
-use Prim.Native.Nat.{_≤_, _-_, _*_}
+use Prim.Native.Nat.{_*_, _-_}
 use native.Mathlib.Nat.{mul-le-mul}
 use native.Mathlib.Omega.{arith}
 use lib.ListN.{getD}
-use Rattle.numbers.specs.Tab.{Filled, filled-none, filled-set, filled-all}
+use Rattle.numbers.specs.Filled.{FilledBy, filled-none, filled-set, filled-all}
 use Rattle.terms.specs.Limits.{ACTORS}
 use Rattle.terms.specs.Period.{firing}
 use Rattle.graph.specs.Shape.{noActor}
@@ -13,7 +13,7 @@ use Rattle.graph.proofs.iteration.firings_of.Statement.{statement}
 use Rattle.graph.proofs.iteration.firings_of.Tie as tie
 
 abbrev Inv-loop : tie.InvT-loop
-Inv-loop actors counts firings₀ i₀ firings i = (i ≤ ACTORS) × Filled ACTORS (λ k. firing (getD actors k noActor .phases * getD counts k 0)) (firing 0) firings i
+Inv-loop actors counts firings₀ i₀ firings i = FilledBy ACTORS (λ k. firing (getD actors k noActor .phases * getD counts k 0)) (firing 0) firings i
 
 abbrev μ-loop : tie.MeasureT-loop
 μ-loop actors counts firings₀ i₀ firings i = ACTORS - i
@@ -28,7 +28,7 @@ mul-t18 c =
 loop-again : tie.Need-loop-again Inv-loop μ-loop
 loop-again c =
     let l = c .before .before .loop in
-    (omega arith, filled-set ACTORS _ (firing 0) _ (l .i) _ (omega arith) refl (l .inv .1))
+    filled-set ACTORS _ (firing 0) (firing 0) _ (l .i) _ (omega arith) refl (l .inv)
 
 pub firings-of-spec : {M : Type 1} → statement M
 firings-of-spec =
@@ -36,7 +36,7 @@ firings-of-spec =
     (tie.spec
     Inv-loop
     μ-loop
-    (λ c. (omega arith, filled-none ACTORS _ (firing 0)))
+    (λ c. filled-none ACTORS _ (firing 0) (firing 0))
     (λ c. search needs)
     (λ c. search needs)
     (λ c. search needs)
@@ -47,4 +47,4 @@ firings-of-spec =
     (λ c. omega arith)
     (λ c. omega arith)
     loop-again
-    (λ c. filled-all ACTORS _ (firing 0) _ (c .before .loop .i) (omega arith) (c .before .loop .inv .1)))
+    (λ c. filled-all ACTORS _ (firing 0) _ (c .before .loop .i) (omega arith) (c .before .loop .inv)))

@@ -3,12 +3,12 @@ use borrow.Author.Needs.{needs}
 use mathlib.Core.Path.{_∙_}
 use mathlib.Core.Bool.{cond}
 use mathlib.Core.Logic.{⊎-elim}
-use Prim.Native.Nat.{_≤_, _-_}
+use Prim.Native.Nat.{_-_}
 use native.Mathlib.Omega.{arith}
 use lib.ListN.{getD}
 use Rattle.numbers.specs.Bits.{hasb, has-is}
 use Rattle.numbers.specs.Decides.{decides-true}
-use Rattle.numbers.specs.Tab.{Filled, filled-none, filled-set, filled-left, filled-all}
+use Rattle.numbers.specs.Filled.{FilledBy, filled-none, filled-set, filled-left, filled-all}
 use Rattle.units.specs.Ticks.{tick}
 use Rattle.terms.specs.Limits.{ACTORS}
 use Rattle.terms.specs.Period.{firing, periodOf}
@@ -16,7 +16,7 @@ use Rattle.graph.proofs.iteration.periods_of.Statement.{statement}
 use Rattle.graph.proofs.iteration.periods_of.Tie as tie
 
 abbrev Inv-loop : tie.InvT-loop
-Inv-loop iteration active firings periods₀ i₀ periods i = (i ≤ ACTORS) × Filled ACTORS (λ k. cond (hasb active k) (periodOf iteration (getD firings k (firing 0))) (tick 0)) (tick 0) periods i
+Inv-loop iteration active firings periods₀ i₀ periods i = FilledBy ACTORS (λ k. cond (hasb active k) (periodOf iteration (getD firings k (firing 0))) (tick 0)) (tick 0) periods i
 
 abbrev μ-loop : tie.MeasureT-loop
 μ-loop iteration active firings periods₀ i₀ periods i = ACTORS - i
@@ -27,14 +27,13 @@ period-requires c κs =
 
 loop-again : tie.Need-loop-again Inv-loop μ-loop
 loop-again c =
-    let l = c .before .before .before .loop in (
-      omega arith,
-      let has = has-is _ _ _ (c .before .has .ensures) in
-          ⊎-elim
-          (λ w. rw (w .3) (filled-set ACTORS _ (tick 0) (l .periods) (l .i) _ (c .before .before .loop-test .taken) (w .2 .ensures ∙ rw (has ∙ w .0 .taken)) (l .inv .1)))
-          (λ w. rw (w .1) (filled-left ACTORS _ (tick 0) (l .periods) (l .i) (rw (has ∙ w .0 .left)) (l .inv .1)))
-          (c .if1 .came),
-    )
+    let l = c .before .before .before .loop in
+    let h = c .before .before .loop-test .taken in
+    let has = has-is _ _ _ (c .before .has .ensures) in
+    ⊎-elim
+    (λ w. rw (w .3) (filled-set ACTORS _ (tick 0) (tick 0) (l .periods) (l .i) _ h (w .2 .ensures ∙ rw (has ∙ w .0 .taken)) (l .inv)))
+    (λ w. rw (w .1) (filled-left ACTORS _ (tick 0) (tick 0) (l .periods) (l .i) h (rw (has ∙ w .0 .left)) (l .inv)))
+    (c .if1 .came)
 
 pub periods-of-spec : {M : Type 1} → statement M
 periods-of-spec =
@@ -42,7 +41,7 @@ periods-of-spec =
     (tie.spec
     Inv-loop
     μ-loop
-    (λ c. (omega arith, filled-none ACTORS _ (tick 0)))
+    (λ c. filled-none ACTORS _ (tick 0) (tick 0))
     (λ c κs. search needs)
     (λ c. search needs)
     (λ c. search needs)
@@ -52,4 +51,4 @@ periods-of-spec =
     (λ c. omega arith)
     (λ c. omega arith)
     loop-again
-    (λ c. filled-all ACTORS _ (tick 0) _ (c .before .loop .i) (omega arith) (c .before .loop .inv .1)))
+    (λ c. filled-all ACTORS _ (tick 0) _ (c .before .loop .i) (omega arith) (c .before .loop .inv)))

@@ -1,10 +1,10 @@
 -- graph::iteration::works_of meets its contract. The invariant: the works of the actors below i are set. Assumes nothing.
 use borrow.Author.Needs.{needs}
-use Prim.Native.Nat.{_≤_, _-_}
+use Prim.Native.Nat.{_-_}
 use native.Mathlib.Nat.{mul-le-mul}
 use native.Mathlib.Omega.{arith}
 use lib.ListN.{getD}
-use Rattle.numbers.specs.Tab.{Filled, filled-none, filled-set, filled-all}
+use Rattle.numbers.specs.Filled.{FilledBy, filled-none, filled-set, filled-all}
 use Rattle.units.specs.Ticks.{tick}
 use Rattle.terms.specs.Limits.{ACTORS}
 use Rattle.terms.specs.Period.{firing, beginsAt}
@@ -13,7 +13,7 @@ use Rattle.graph.proofs.iteration.works_of.Statement.{statement}
 use Rattle.graph.proofs.iteration.works_of.Tie as tie
 
 abbrev Inv-loop : tie.InvT-loop
-Inv-loop actors firings works₀ i₀ works i = (i ≤ ACTORS) × Filled ACTORS (λ k. beginsAt (tick 0) (getD actors k noActor .wcet) (getD firings k (firing 0))) (tick 0) works i
+Inv-loop actors firings works₀ i₀ works i = FilledBy ACTORS (λ k. beginsAt (tick 0) (getD actors k noActor .wcet) (getD firings k (firing 0))) (tick 0) works i
 
 abbrev μ-loop : tie.MeasureT-loop
 μ-loop actors firings works₀ i₀ works i = ACTORS - i
@@ -27,7 +27,7 @@ begins-requires c κs =
 loop-again : tie.Need-loop-again Inv-loop μ-loop
 loop-again c =
     let l = c .before .before .before .before .loop in
-    (omega arith, filled-set ACTORS _ (tick 0) _ (l .i) _ (omega arith) (c .begins .ensures) (l .inv .1))
+    filled-set ACTORS _ (tick 0) (tick 0) _ (l .i) _ (omega arith) (c .begins .ensures) (l .inv)
 
 pub works-of-spec : {M : Type 1} → statement M
 works-of-spec =
@@ -35,7 +35,7 @@ works-of-spec =
     (tie.spec
     Inv-loop
     μ-loop
-    (λ c. (omega arith, filled-none ACTORS _ (tick 0)))
+    (λ c. filled-none ACTORS _ (tick 0) (tick 0))
     (λ c. search needs)
     (λ c. search needs)
     (λ c. search needs)
@@ -46,4 +46,4 @@ works-of-spec =
     (λ c. omega arith)
     (λ c. omega arith)
     loop-again
-    (λ c. filled-all ACTORS _ (tick 0) _ (c .before .loop .i) (omega arith) (c .before .loop .inv .1)))
+    (λ c. filled-all ACTORS _ (tick 0) _ (c .before .loop .i) (omega arith) (c .before .loop .inv)))

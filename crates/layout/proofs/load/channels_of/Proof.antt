@@ -1,10 +1,10 @@
 -- layout::load::channels_of meets its contract. The invariant: the channels below k are read. Assumes nothing.
 use borrow.Author.Needs.{needs}
 use mathlib.Core.Path.{ap, _∙_}
-use Prim.Native.Nat.{_≤_, _-_}
+use Prim.Native.Nat.{_-_}
 use native.Mathlib.Omega.{arith}
 use lib.ListN.{length-take, length-drop}
-use Rattle.numbers.specs.Tab.{Filled, filled-none, filled-set, filled-all}
+use Rattle.numbers.specs.Filled.{FilledBy, filled-none, filled-set, filled-all}
 use Rattle.terms.specs.Limits.{CHANNELS}
 use Rattle.graph.specs.Shape.{emptyChannel}
 use Rattle.layout.specs.Joined.{part}
@@ -15,18 +15,18 @@ use Rattle.layout.proofs.load.channels_of.Statement.{statement}
 use Rattle.layout.proofs.load.channels_of.Tie as tie
 
 abbrev Inv-loop : tie.InvT-loop
-Inv-loop words channels₀ k₀ channels k = (k ≤ CHANNELS) × Filled CHANNELS (λ j. channelOf (part CHANNEL-WORDS j words)) emptyChannel channels k
+Inv-loop words channels₀ k₀ channels k = FilledBy CHANNELS (λ j. channelOf (part CHANNEL-WORDS j words)) emptyChannel channels k
 
 abbrev μ-loop : tie.MeasureT-loop
 μ-loop words channels₀ k₀ channels k = CHANNELS - k
 
 loop-holds : tie.Need-loop-holds Inv-loop μ-loop
-loop-holds c = (omega arith, simp (c .no-channel .ensures) (filled-none CHANNELS _ emptyChannel))
+loop-holds c = simp (c .no-channel .ensures) (filled-none CHANNELS _ emptyChannel emptyChannel)
 
 loop-again : tie.Need-loop-again Inv-loop μ-loop
 loop-again c =
     let l = c .before .before .before .loop in
-    (omega arith, filled-set CHANNELS _ emptyChannel _ (l .k) _ (omega arith) (c .channel-of .ensures ∙ ap channelOf (part-is CHANNEL-WORDS (l .k) _)) (l .inv .1))
+    filled-set CHANNELS _ emptyChannel emptyChannel _ (l .k) _ (omega arith) (c .channel-of .ensures ∙ ap channelOf (part-is CHANNEL-WORDS (l .k) _)) (l .inv)
 
 pub channels-of-spec : {M : Type 1} → statement M
 channels-of-spec =
@@ -48,4 +48,4 @@ channels-of-spec =
     (λ c. omega arith)
     (λ c. omega arith)
     loop-again
-    (λ c. filled-all CHANNELS _ emptyChannel _ (c .before .loop .k) (omega arith) (c .before .loop .inv .1)))
+    (λ c. filled-all CHANNELS _ emptyChannel _ (c .before .loop .k) (omega arith) (c .before .loop .inv)))

@@ -1,22 +1,22 @@
 -- layout::load::rates_of meets its contract. The invariant: the rates below k are read. Assumes nothing.
 use borrow.Author.Needs.{needs}
 use mathlib.Core.Path.{refl}
-use Prim.Native.Nat.{ℕ, _≤_, _-_, _%_}
+use Prim.Native.Nat.{ℕ, _%_, _-_}
 use native.Mathlib.Omega.{arith}
 use lib.ListN.{getD}
-use Rattle.numbers.specs.Tab.{Filled, filled-none, filled-set, filled-all}
+use Rattle.numbers.specs.Filled.{FilledBy, filled-none, filled-set, filled-all}
 use Rattle.terms.specs.Limits.{PHASES}
 use Rattle.layout.proofs.load.rates_of.Statement.{statement}
 use Rattle.layout.proofs.load.rates_of.Tie as tie
 
 abbrev Inv-loop : tie.InvT-loop
-Inv-loop words rates₀ k₀ rates k = (k ≤ PHASES) × Filled {A = ℕ} PHASES (λ j. getD words j 0 % 256) 0 rates k
+Inv-loop words rates₀ k₀ rates k = FilledBy {A = ℕ} PHASES (λ j. getD words j 0 % 256) 0 rates k
 
 abbrev μ-loop : tie.MeasureT-loop
 μ-loop words rates₀ k₀ rates k = PHASES - k
 
 loop-again : tie.Need-loop-again Inv-loop μ-loop
-loop-again c = let l = c .before .before .loop in (omega arith, filled-set {A = ℕ} PHASES _ 0 _ (l .k) _ (omega arith) refl (l .inv .1))
+loop-again c = let l = c .before .before .loop in filled-set {A = ℕ} PHASES _ 0 0 _ (l .k) _ (omega arith) refl (l .inv)
 
 pub rates-of-spec : {M : Type 1} → statement M
 rates-of-spec =
@@ -24,7 +24,7 @@ rates-of-spec =
     (tie.spec
     Inv-loop
     μ-loop
-    (λ c. (omega arith, filled-none {A = ℕ} PHASES _ 0))
+    (λ c. filled-none {A = ℕ} PHASES _ 0 0)
     (λ c. omega arith)
     (λ c. omega arith)
     (λ c. search needs)
@@ -32,4 +32,4 @@ rates-of-spec =
     (λ c. omega arith)
     (λ c. omega arith)
     loop-again
-    (λ c. filled-all PHASES _ 0 _ (c .before .loop .k) (omega arith) (c .before .loop .inv .1)))
+    (λ c. filled-all PHASES _ 0 _ (c .before .loop .k) (omega arith) (c .before .loop .inv)))

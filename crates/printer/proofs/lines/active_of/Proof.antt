@@ -1,16 +1,16 @@
 -- printer::lines::active_of meets its contract. The invariant: the sets of the modes below m are set. Assumes nothing.
 use borrow.Author.Needs.{needs}
 use mathlib.Core.Path.{refl}
-use Prim.Native.Nat.{_-_, _≤_}
+use Prim.Native.Nat.{_-_}
 use native.Mathlib.Omega.{arith}
-use Rattle.numbers.specs.Tab.{Filled, filled-none, filled-set, filled-all}
+use Rattle.numbers.specs.Filled.{FilledBy, filled-none, filled-set, filled-all}
 use Rattle.terms.specs.Limits.{MODES}
 use Rattle.graph.specs.Shape.{modeAt}
 use Rattle.printer.proofs.lines.active_of.Statement.{statement}
 use Rattle.printer.proofs.lines.active_of.Tie as tie
 
 abbrev Inv-loop : tie.InvT-loop
-Inv-loop table active₀ m₀ active m = (m ≤ MODES) × Filled MODES (λ i. modeAt table i .active) 0 active m
+Inv-loop table active₀ m₀ active m = FilledBy MODES (λ i. modeAt table i .active) 0 active m
 
 abbrev μ-loop : tie.MeasureT-loop
 μ-loop table active₀ m₀ active m = MODES - m
@@ -18,7 +18,7 @@ abbrev μ-loop : tie.MeasureT-loop
 loop-again : tie.Need-loop-again Inv-loop μ-loop
 loop-again c =
     let l = c .before .before .loop in
-    (omega arith, filled-set MODES _ 0 _ (l .m) _ (omega arith) refl (l .inv .1))
+    filled-set MODES _ 0 0 _ (l .m) _ (omega arith) refl (l .inv)
 
 pub active-of-spec : {M : Type 1} → statement M
 active-of-spec =
@@ -26,7 +26,7 @@ active-of-spec =
     (tie.spec
     Inv-loop
     μ-loop
-    (λ c. (omega arith, filled-none MODES _ 0))
+    (λ c. filled-none MODES _ 0 0)
     (λ c. search needs)
     (λ c. search needs)
     (λ c. search needs)
@@ -34,4 +34,4 @@ active-of-spec =
     (λ c. search needs)
     (λ c. omega arith)
     loop-again
-    (λ c. filled-all MODES _ 0 _ (c .before .loop .m) (omega arith) (c .before .loop .inv .1)))
+    (λ c. filled-all MODES _ 0 _ (c .before .loop .m) (omega arith) (c .before .loop .inv)))

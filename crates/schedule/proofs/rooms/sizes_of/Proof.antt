@@ -1,15 +1,19 @@
 -- schedule::rooms::sizes_of meets its contract. The invariant: the sizes of the channels below k are set. Assumes nothing.
-use Prim.Native.Nat.{ℕ, _-_, _≤_}
+use Prim.Native.Nat.{ℕ, _≤_, _-_}
 use native.Mathlib.Omega.{arith}
+use Rattle.numbers.specs.Filled.{Filled, filled-none, filled-set}
+use Rattle.terms.specs.Limits.{CHANNELS}
+use Rattle.units.specs.Tokens.{token}
 use Rattle.graph.specs.Shape.{channelAt}
 use Rattle.graph.specs.Proper.{ProperChannel}
 use Rattle.schedule.specs.Reached.{startAt}
-use Rattle.schedule.proofs.Sizing.{Sized, sized-none, sized-more, sized-all}
+use Rattle.schedule.specs.Scheduled.{SizeOn}
+use Rattle.schedule.proofs.Sizing.{sized-all}
 use Rattle.schedule.proofs.rooms.sizes_of.Statement.{statement}
 use Rattle.schedule.proofs.rooms.sizes_of.Tie as tie
 
 abbrev Inv-loop : tie.InvT-loop
-Inv-loop mode periods starts sizes₀ k₀ k-end sizes k = (k ≤ k-end) × Sized mode periods (startAt starts) sizes k
+Inv-loop mode periods starts sizes₀ k₀ k-end sizes k = (k ≤ k-end) × Filled CHANNELS (SizeOn mode periods (startAt starts)) (token 0) (token 0) sizes k
 
 abbrev μ-loop : tie.MeasureT-loop
 μ-loop mode periods starts sizes₀ k₀ k-end sizes k = k-end - k
@@ -32,7 +36,7 @@ room-requires c κs =
 loop-again : tie.Need-loop-again Inv-loop μ-loop
 loop-again c =
     let d = c .before .before .before .before .before .before .before in
-    (omega arith, sized-more _ _ _ _ (place d) (c .room .result) (omega (arith, d .before .before .before .pre .proper .count)) (c .room .ensures) (d .before .before .loop .inv .1))
+    (omega arith, filled-set CHANNELS _ (token 0) (token 0) _ (place d) (c .room .result) (omega (arith, d .before .before .before .pre .proper .count)) (c .room .ensures) (d .before .before .loop .inv .1))
 
 pub sizes-of-spec : {M : Type 1} → statement M
 sizes-of-spec =
@@ -40,7 +44,7 @@ sizes-of-spec =
     (tie.spec
     Inv-loop
     μ-loop
-    (λ c. (omega arith, sized-none _ _ _))
+    (λ c. (omega arith, filled-none CHANNELS _ (token 0) (token 0)))
     (λ c. omega (arith, c .before .before .pre .proper .count))
     (λ c. omega (arith, c .before .before .pre .proper .count))
     (λ c. omega (arith, channel c .from))

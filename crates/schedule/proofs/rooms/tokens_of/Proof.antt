@@ -1,7 +1,7 @@
 -- schedule::rooms::tokens_of meets its contract. The invariant: the tokens of the channels below k are set. Assumes nothing.
-use Prim.Native.Nat.{ℕ, _-_, _≤_}
+use Prim.Native.Nat.{ℕ, _≤_, _-_}
 use native.Mathlib.Omega.{arith}
-use Rattle.numbers.specs.Tab.{Filled, filled-none, filled-set}
+use Rattle.numbers.specs.Filled.{FilledBy, filled-none, filled-set}
 use Rattle.terms.specs.Limits.{CHANNELS}
 use Rattle.units.specs.Tokens.{token}
 use Rattle.graph.specs.Shape.{channelAt}
@@ -12,7 +12,7 @@ use Rattle.schedule.proofs.rooms.tokens_of.Statement.{statement}
 use Rattle.schedule.proofs.rooms.tokens_of.Tie as tie
 
 abbrev Inv-loop : tie.InvT-loop
-Inv-loop mode firings tokens₀ k₀ k-end tokens k = (k ≤ k-end) × Filled CHANNELS (tokensOn mode firings) (token 0) tokens k
+Inv-loop mode firings tokens₀ k₀ k-end tokens k = (k ≤ k-end) × FilledBy CHANNELS (tokensOn mode firings) (token 0) tokens k
 
 abbrev μ-loop : tie.MeasureT-loop
 μ-loop mode firings tokens₀ k₀ k-end tokens k = k-end - k
@@ -34,7 +34,7 @@ made-requires c κs =
 loop-again : tie.Need-loop-again Inv-loop μ-loop
 loop-again c =
     let d = c .before .before .before .before in
-    (omega arith, filled-set CHANNELS _ (token 0) _ (place d) _ (omega (arith, d .before .before .before .pre .0 .count)) (c .made .ensures) (d .before .before .loop .inv .1))
+    (omega arith, filled-set CHANNELS _ (token 0) (token 0) _ (place d) _ (omega (arith, d .before .before .before .pre .0 .count)) (c .made .ensures) (d .before .before .loop .inv .1))
 
 pub tokens-of-spec : {M : Type 1} → statement M
 tokens-of-spec =
@@ -42,7 +42,7 @@ tokens-of-spec =
     (tie.spec
     Inv-loop
     μ-loop
-    (λ c. (omega arith, filled-none CHANNELS _ (token 0)))
+    (λ c. (omega arith, filled-none CHANNELS _ (token 0) (token 0)))
     (λ c. omega (arith, c .before .before .pre .0 .count))
     (λ c. omega (arith, c .before .before .pre .0 .count))
     (λ c. omega (arith, channel c .from))

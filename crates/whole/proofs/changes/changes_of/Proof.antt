@@ -1,17 +1,17 @@
 -- whole::changes::changes_of meets its contract. The invariant: the changes at the places below n are found. Assumes nothing.
 use borrow.Author.Needs.{needs}
 use mathlib.Core.Path.{_≡_}
-use Prim.Native.Nat.{_*_, _-_, _/_, _%_, _≤_}
+use Prim.Native.Nat.{_*_, _-_, _/_, _%_}
 use native.Mathlib.Omega.{arith}
 use Rattle.terms.specs.Limits.{MODES}
 use Rattle.whole.specs.Whole.{noTiming}
-use Rattle.whole.specs.Steps.{Made, ChangeOf}
-use Rattle.whole.proofs.Making.{made-none, made-set}
+use Rattle.whole.specs.Steps.{FoundChanges}
+use Rattle.numbers.specs.Filled.{filled-none, filled-set}
 use Rattle.whole.proofs.changes.changes_of.Statement.{statement}
 use Rattle.whole.proofs.changes.changes_of.Tie as tie
 
 abbrev Inv-loop : tie.InvT-loop
-Inv-loop runnings changes₀ n₀ changes n = (n ≤ MODES * MODES) × Made (MODES * MODES) (ChangeOf runnings) noTiming changes n
+Inv-loop runnings changes₀ n₀ changes n = FoundChanges runnings changes n
 
 abbrev μ-loop : tie.MeasureT-loop
 μ-loop runnings changes₀ n₀ changes n = MODES * MODES - n
@@ -25,12 +25,12 @@ between-requires c κs =
 loop-again : tie.Need-loop-again Inv-loop μ-loop
 loop-again c =
     let l = c .before .before .before .before in
-    (omega (arith, c .before .before .before .loop-test .taken), made-set (MODES * MODES) _ noTiming _ (l .loop .n) _ (c .before .before .before .loop-test .taken) (c .between .ensures) (l .loop .inv .1))
+    filled-set (MODES * MODES) _ noTiming noTiming _ (l .loop .n) _ (c .before .before .before .loop-test .taken) (c .between .ensures) (l .loop .inv)
 
 returns : tie.Need-returns Inv-loop μ-loop
 returns c =
-    let e : c .before .loop .n ≡ MODES * MODES = omega (arith, c .before .loop .inv .0, c .loop-test .left) in
-    rw e at (c .before .loop .inv .1)
+    let e : c .before .loop .n ≡ MODES * MODES = omega (arith, c .before .loop .inv .within, c .loop-test .left) in
+    rw e at (c .before .loop .inv)
 
 pub changes-of-spec : {M : Type 1} → statement M
 changes-of-spec =
@@ -39,7 +39,7 @@ changes-of-spec =
     Inv-loop
     μ-loop
     (λ c κs. search needs)
-    (λ c. (omega arith, made-none (MODES * MODES) _ noTiming _))
+    (λ c. rw (c .none .ensures) (filled-none (MODES * MODES) _ noTiming noTiming))
     (λ c. omega arith)
     (λ c. omega arith)
     (λ c. omega arith)

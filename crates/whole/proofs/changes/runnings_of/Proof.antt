@@ -1,10 +1,10 @@
 -- whole::changes::runnings_of meets its contract. The invariant: the listed modes below k are prepared, and the others are idle. Assumes nothing.
 use borrow.Author.Needs.{needs}
 use mathlib.Core.Logic.{⊎-elim}
-use Prim.Native.Nat.{_-_, _≤_}
+use Prim.Native.Nat.{_-_}
 use native.Mathlib.Omega.{arith}
 use lib.ListN.{getD}
-use Rattle.numbers.specs.Tab.{Filled, filled-none, filled-set, filled-left, filled-all}
+use Rattle.numbers.specs.Filled.{FilledBy, filled-none, filled-set, filled-left, filled-all}
 use Rattle.terms.specs.Limits.{MODES}
 use Rattle.graph.specs.Shape.{modeAt}
 use Rattle.whole.specs.Whole.{noPart, runningOf}
@@ -15,13 +15,13 @@ use Rattle.whole.proofs.changes.runnings_of.Tie as tie
 
 abbrev Inv-loop : tie.InvT-loop
 Inv-loop table parts runnings₀ k₀ runnings k =
-    (k ≤ MODES) × Filled MODES (λ i. runningOf (modeAt table i) (getD parts i noPart)) idleRunning runnings k
+    FilledBy MODES (λ i. runningOf (modeAt table i) (getD parts i noPart)) idleRunning runnings k
 
 abbrev μ-loop : tie.MeasureT-loop
 μ-loop table parts runnings₀ k₀ runnings k = MODES - k
 
 loop-holds : tie.Need-loop-holds Inv-loop μ-loop
-loop-holds c = (omega arith, rw (c .idle .ensures) (filled-none MODES _ idleRunning))
+loop-holds c = rw (c .idle .ensures) (filled-none MODES _ idleRunning idleRunning)
 
 prepare-requires : tie.Need-prepare-requires Inv-loop μ-loop
 prepare-requires c κs =
@@ -35,16 +35,14 @@ loop-again c =
     let t = c .before .before .before in
     let l = t .before .loop in
     let p = t .before .before .before .pre in
-    let h = t .loop-test .taken in (
-      omega (arith, h),
-      ⊎-elim
-          (λ w. rw (w .7) (filled-set MODES _ idleRunning (l .runnings) (l .k) _ h (w .6 .ensures) (l .inv .1)))
-          (λ w. rw (w .1) (filled-left MODES _ idleRunning (l .runnings) (l .k) (part-idle _ (p .0) (l .k) _ h (p .1 .each (l .k) h) (w .0 .left)) (l .inv .1)))
-          (c .if1 .came),
-    )
+    let h = t .loop-test .taken in
+    ⊎-elim
+    (λ w. rw (w .7) (filled-set MODES _ idleRunning idleRunning (l .runnings) (l .k) _ h (w .6 .ensures) (l .inv)))
+    (λ w. rw (w .1) (filled-left MODES _ idleRunning idleRunning (l .runnings) (l .k) h (part-idle _ (p .0) (l .k) _ h (p .1 .each (l .k) h) (w .0 .left)) (l .inv)))
+    (c .if1 .came)
 
 returns : tie.Need-returns Inv-loop μ-loop
-returns c = filled-all MODES _ idleRunning _ (c .before .loop .k) (omega arith) (c .before .loop .inv .1)
+returns c = filled-all MODES _ idleRunning _ (c .before .loop .k) (omega arith) (c .before .loop .inv)
 
 pub runnings-of-spec : {M : Type 1} → statement M
 runnings-of-spec =
