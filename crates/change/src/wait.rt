@@ -1,6 +1,6 @@
 // How long a new mode waits for an old one.
 use crate::Running;
-use numbers::bits::has;
+use bits::has;
 use numbers::fraction::Fraction;
 use numbers::fraction::at_most;
 use numbers::fraction::plus;

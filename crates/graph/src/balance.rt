@@ -2,7 +2,7 @@
 use crate::shape::Actor;
 use crate::shape::Channel;
 use crate::shape::Mode;
-use numbers::bits::has;
+use bits::has;
 use terms::limits::ACTORS;
 use terms::limits::ITERATION_LIMIT;
 use terms::limits::PHASES;

@@ -1,6 +1,6 @@
 // The actors without incoming and without outgoing channels.
-use numbers::bits::has;
-use numbers::bits::with;
+use bits::has;
+use bits::with;
 use terms::limits::ACTORS;
 ghost use mathlib.Core.Path.{_≡_};
 ghost use lib.ListN.{length};

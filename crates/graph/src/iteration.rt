@@ -1,6 +1,6 @@
 // The length of a mode's iteration, and the periods of its actors.
 use crate::shape::Actor;
-use numbers::bits::has;
+use bits::has;
 use terms::limits::ACTORS;
 use terms::limits::ITERATION_LIMIT;
 use terms::period;

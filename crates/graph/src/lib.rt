@@ -6,7 +6,7 @@ mod load;
 mod order;
 pub mod shape;
 
-use numbers::bits::size;
+use bits::size;
 use shape::Mode;
 use terms::limits::ACTORS;
 use terms::limits::PROCESSORS;

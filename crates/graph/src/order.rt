@@ -1,10 +1,10 @@
 // The order of a mode's actors along its channels.
 use crate::shape::Mode;
-use numbers::bits::has;
-use numbers::bits::size;
-use numbers::bits::with;
-use numbers::bits::within;
-use numbers::bits::without;
+use bits::has;
+use bits::size;
+use bits::with;
+use bits::within;
+use bits::without;
 use terms::limits::ACTORS;
 ghost use mathlib.Core.Path.{_≡_};
 ghost use Prim.Native.Nat.{_<_};

@@ -5,16 +5,6 @@ use Rattle.numbers.specs.Decides.{decides-unique}
 use Rattle.numbers.specs.Euclid.{gcd-unique}
 use Rattle.numbers.specs.Multiples.{lcm-within-unique}
 use Rattle.numbers.proofs.Settles.{Settles}
-use Rattle.numbers.proofs.bits.has.Kinds as has-kinds
-use Rattle.numbers.proofs.bits.has.Reads as has
-use Rattle.numbers.proofs.bits.with.Kinds as with-kinds
-use Rattle.numbers.proofs.bits.with.Reads as with
-use Rattle.numbers.proofs.bits.without.Kinds as without-kinds
-use Rattle.numbers.proofs.bits.without.Reads as without
-use Rattle.numbers.proofs.bits.within.Kinds as within-kinds
-use Rattle.numbers.proofs.bits.within.Reads as within
-use Rattle.numbers.proofs.bits.size.Kinds as size-kinds
-use Rattle.numbers.proofs.bits.size.Reads as size
 use Rattle.numbers.proofs.common.gcd.Kinds as gcd-kinds
 use Rattle.numbers.proofs.common.gcd.Reads as gcd
 use Rattle.numbers.proofs.common.gcd32.Kinds as gcd32-kinds
@@ -27,21 +17,6 @@ use Rattle.numbers.proofs.fraction.at_most.Kinds as at-most-kinds
 use Rattle.numbers.proofs.fraction.at_most.Reads as at-most
 use Rattle.numbers.proofs.quotient.rounded_up.Kinds as rounded-up-kinds
 use Rattle.numbers.proofs.quotient.rounded_up.Reads as rounded-up
-
-has-settled : Settles 0 has-kinds.ps has-kinds.r has.Post
-has-settled κs a x y s t p q = decides-unique x y p q
-
-with-settled : Settles 0 with-kinds.ps with-kinds.r with.Post
-with-settled κs a x y s t p q = p ∙ sym q
-
-without-settled : Settles 0 without-kinds.ps without-kinds.r without.Post
-without-settled κs a x y s t p q = p ∙ sym q
-
-within-settled : Settles 0 within-kinds.ps within-kinds.r within.Post
-within-settled κs a x y s t p q = decides-unique x y p q
-
-size-settled : Settles 0 size-kinds.ps size-kinds.r size.Post
-size-settled κs a x y s t p q = p ∙ sym q
 
 gcd-settled : Settles 0 gcd-kinds.ps gcd-kinds.r gcd.Post
 gcd-settled κs a x y s t p q = gcd-unique p q

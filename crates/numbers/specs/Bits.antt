@@ -1,7 +1,7 @@
 -- The binary places of a number as a set of numbers, and the laws of `&`, `|`, shift and the count of ones.
 use mathlib.Core.Path.{_≡_, refl, sym, ap, _∙_}
 use mathlib.Core.Bool.{Bool, not, _&&_}
-use mathlib.Core.Logic.{_⊎_, inl, inr, ⊎-elim, _↔_}
+use mathlib.Core.Logic.{_⊎_, inl, inr, ⊎-elim, _↔_, Iff·symm, Iff·trans}
 use Prim.Native.Nat.{ℕ, zero, suc, _+_, _-_, _/_, _%_, _*_, _^_, _<_, _≤_, min, max, zero-le, suc-le-suc}
 use native.Mathlib.Nat.{pow-suc, not-suc-le-zero, le-of-suc-le-suc, eq-or-lt-of-le, lt-suc-self, div-one, add-comm, zero-mul, one-mul, sub-zero}
 use native.Mathlib.Numerals.{add-one}
@@ -37,11 +37,18 @@ Within a b = (i : ℕ) → Has a i → Has b i
 abbrev pub size : ℕ → ℕ → ℕ
 size k m = sum (bit m) k
 
--- the set m with i
+-- r is the set m with i: it has j exactly when j is i or m has j
+abbrev pub With : ℕ → ℕ → ℕ → Type 0
+With m i r = (j : ℕ) → Has r j ↔ ((j ≡ i) ⊎ Has m j)
+
+-- r is the set m without i: it has j exactly when j is not i and m has j
+abbrev pub Without : ℕ → ℕ → ℕ → Type 0
+Without m i r = (j : ℕ) → Has r j ↔ ((j ≡ i → ⊥) × Has m j)
+
+-- the numbers that are these sets
 abbrev pub adding : ℕ → ℕ → ℕ
 adding m i = bitOr m (2 ^ i)
 
--- the set m without i
 abbrev pub removing : ℕ → ℕ → ℕ
 removing m i = m - bit m i * 2 ^ i
 
@@ -118,8 +125,7 @@ bit-pow-other zero (suc j) h = bit-zero j
 bit-pow-other (suc i) zero h = rw pow-suc (omega arith)
 bit-pow-other (suc i) (suc j) h = ap (λ (x : ℕ). bit x j) (half-pow i) ∙ bit-pow-other i j (λ e. h (ap suc e))
 
--- what the set with i has: i, and what it had
-pub has-adding : (m i j : ℕ) → Has (adding m i) j ↔ ((j ≡ i) ⊎ Has m j)
+pub has-adding : (m i : ℕ) → With m i (adding m i)
 has-adding m i j = (to (ℕ-discrete j i), from)
   where
     to : Dec (j ≡ i) → Has (adding m i) j → (j ≡ i) ⊎ Has m j
@@ -157,6 +163,13 @@ bit-removing-same m i = ⊎-elim (λ (y : Has m i). rw (y, one-mul) (taken-same 
 pub bit-removing-other : (m i j : ℕ) → (j ≡ i → ⊥) → bit (removing m i) j ≡ bit m j
 bit-removing-other m i j n = ⊎-elim (λ (y : Has m i). rw (y, one-mul) (taken-other m i j y n)) (λ (z : bit m i ≡ 0). rw (z, zero-mul, sub-zero)) (has-or-not m i)
 
+pub has-removing : (m i : ℕ) → Without m i (removing m i)
+has-removing m i j = (to (ℕ-discrete j i), λ (n, h). bit-removing-other m i j n ∙ h)
+  where
+    to : Dec (j ≡ i) → Has (removing m i) j → (j ≡ i → ⊥) × Has m j
+    to (yes e) h = absurd (omega (arith, bit-removing-same m i, ap (bit (removing m i)) e))
+    to (no n) h = (n, sym (bit-removing-other m i j n) ∙ h)
+
 -- two sets below 2 ^ k that have the same numbers are one
 pub bit-ext : (k a b : ℕ) → a < 2 ^ k → b < 2 ^ k → ((i : ℕ) → i < k → bit a i ≡ bit b i) → a ≡ b
 unfolding bit
@@ -185,6 +198,22 @@ has-below k m j h e = go (decLt j k)
 lt-pow : (n : ℕ) → n < 2 ^ n
 lt-pow zero = suc-le-suc zero-le
 lt-pow (suc n) = rw pow-suc (omega (arith, lt-pow n))
+
+-- two sets that have the same numbers are one
+pub same-set : (a b : ℕ) → ((i : ℕ) → Has a i ↔ Has b i) → a ≡ b
+same-set a b h = bit-ext (a + b) a b (omega (arith, lt-pow (a + b))) (omega (arith, lt-pow (a + b))) (λ i l. go i (has-or-not a i) (has-or-not b i))
+  where
+    go : (i : ℕ) → Has a i ⊎ (bit a i ≡ 0) → Has b i ⊎ (bit b i ≡ 0) → bit a i ≡ bit b i
+    go i (inl y) d = y ∙ sym (h i .0 y)
+    go i (inr z) (inl y) = h i .1 y ∙ sym y
+    go i (inr z) (inr o) = z ∙ sym o
+
+-- one set is m with i, and one is m without it
+pub with-is : (m i : ℕ) {r : ℕ} → With m i r → r ≡ adding m i
+with-is m i {r} p = same-set r (adding m i) (λ j. Iff·trans (p j) (Iff·symm (has-adding m i j)))
+
+pub without-is : (m i : ℕ) {r : ℕ} → Without m i r → r ≡ removing m i
+without-is m i {r} p = same-set r (removing m i) (λ j. Iff·trans (p j) (Iff·symm (has-removing m i j)))
 
 -- a is within b exactly when `a & b` is a
 pub within-and : (a b : ℕ) → (bitAnd a b ≡ a) ↔ Within a b

@@ -1,5 +1,4 @@
 // Number laws: they know nothing of pipelines.
-pub mod bits;
 pub mod common;
 pub mod fraction;
 pub mod quotient;

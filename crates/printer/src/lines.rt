@@ -1,11 +1,11 @@
 // The lines of a plan, from a place of the buffer on.
 use crate::bytes::Five;
 use crate::bytes::line;
+use bits::has;
 use change::Timing;
 use graph::shape::Channel;
 use graph::shape::Mode;
 use graph::shape::Table;
-use numbers::bits::has;
 use terms::limits::ACTORS;
 use terms::limits::MODES;
 use units::Firing;

@@ -1,7 +1,7 @@
 // The actors of a mode.
+use bits::has;
 use graph::shape::Actor;
 use graph::shape::Mode;
-use numbers::bits::has;
 use terms::limits::ACTORS;
 use terms::limits::MOST_WCET;
 use terms::limits::PHASES;

@@ -1,7 +1,7 @@
 // The channels of a mode.
+use bits::has;
 use graph::shape::Channel;
 use graph::shape::Mode;
-use numbers::bits::has;
 use terms::limits::CHANNELS;
 use terms::limits::PHASES;
 ghost use mathlib.Core.Path.{_≡_};

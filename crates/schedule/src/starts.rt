@@ -1,11 +1,11 @@
 // The starts of a mode's actors.
 use crate::Timing;
+use bits::has;
 use channel::End;
 use channel::least_start;
 use graph::shape::Actor;
 use graph::shape::Channel;
 use graph::shape::Mode;
-use numbers::bits::has;
 use terms::limits::ACTORS;
 use units::Tick;
 ghost use mathlib.Core.Path.{_≡_};

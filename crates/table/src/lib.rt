@@ -72,7 +72,7 @@ fn rows(text: &[u8]) -> Reading
         }
         if row::lists_actor(line) {
             let is = line.is;
-            mode.active = numbers::bits::with(mode.active, a);
+            mode.active = bits::with(mode.active, a);
             mode.actors[a] = is;
             homes[a] = is.processor;
         } else {

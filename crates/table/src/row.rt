@@ -205,7 +205,7 @@ fn actor_refusal(active: u16, home: usize, line: Line) -> u64
     ensures { λ r. ⌜ r ≡ actorListed active home line ⌝ }
 {
     let is = line.is;
-    if numbers::bits::has(active, line.actor) {
+    if bits::has(active, line.actor) {
         return 3;
     }
     if home != 0 {
@@ -241,10 +241,10 @@ fn channel_refusal(active: u16, count: usize, actors: [Actor; ACTORS], line: Lin
 {
     let from = line.actor;
     let to = line.to;
-    if !numbers::bits::has(active, from) {
+    if !bits::has(active, from) {
         return 3;
     }
-    if !numbers::bits::has(active, to) {
+    if !bits::has(active, to) {
         return 3;
     }
     if CHANNELS <= count {

@@ -11,6 +11,7 @@ use lib.Seq.{set-getD}
 use Rattle.terms.specs.Limits.{CHANNELS}
 use Rattle.graph.specs.declared.shape.Mode.{Mode}
 use Rattle.graph.specs.declared.shape.Table.{Table}
+use Rattle.numbers.specs.Bits.{with-is}
 use Rattle.graph.specs.Shape.{modeAt, withMode, withChannel}
 use Rattle.table.specs.declared.Answer.the-variants.{Read}
 use Rattle.table.specs.declared.record.Record.{Record}
@@ -106,7 +107,7 @@ left c =
     ⊎-elim
     (λ w.
     let s = actor-step M (getD homes (l .actor) 0) l (sym (c .before .lists-actor .ensures) ∙ w .0 .taken) in
-    (sym (w .4 ∙ rw (w .2 .ensures) (s .0)), ap (set homes (l .actor)) (sym (s .1)) ∙ sym (w .3)))
+    (sym (w .4 ∙ rw (with-is _ _ (w .2 .ensures)) (s .0)), ap (set homes (l .actor)) (sym (s .1)) ∙ sym (w .3)))
     (λ w.
     let s = channel-left (record { before = c .before; if3 = w .0 }) in
     (sym (w .3 ∙ ap (withChannel M) (w .1 .ensures) ∙ s .1), ap (set homes (l .actor)) (sym (s .2)) ∙ set-getD homes (l .actor) 0 ∙ sym (w .2)))

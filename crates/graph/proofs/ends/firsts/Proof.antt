@@ -7,7 +7,7 @@ use Prim.Native.Nat.{ℕ, _≤_, _-_}
 use native.Mathlib.Omega.{arith}
 use lib.Dec.{eqb}
 use lib.ListN.{getD}
-use Rattle.numbers.specs.Bits.{adding, has-is}
+use Rattle.numbers.specs.Bits.{adding, has-is, with-is}
 use Rattle.terms.specs.Limits.{ACTORS}
 use Rattle.graph.specs.Rounds.{chosen}
 use Rattle.graph.proofs.Bounds.{chosen-next}
@@ -31,7 +31,7 @@ loop-again c =
       let has = has-is _ _ _ (c .before .has .ensures) in
           rw chosen-next
           (⊎-elim
-          (λ w. rw (has ∙ w .0 .taken, eq-eqb _ _ (w .1 .taken)) (w .3 ∙ w .2 .ensures ∙ ap (λ (s : ℕ). adding s (l .i)) (l .inv .1)))
+          (λ w. rw (has ∙ w .0 .taken, eq-eqb _ _ (w .1 .taken)) (w .3 ∙ with-is _ _ (w .2 .ensures) ∙ ap (λ (s : ℕ). adding s (l .i)) (l .inv .1)))
           (⊎-elim (λ w. rw (has ∙ w .0 .taken, ne-eqb _ _ (w .1 .left)) (w .2 ∙ l .inv .1)) (λ w. rw (has ∙ w .0 .left) (w .1 ∙ l .inv .1)))
           (c .if1 .came)),
     )

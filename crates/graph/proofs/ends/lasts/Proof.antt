@@ -6,7 +6,7 @@ use mathlib.Core.Bool.{not}
 use mathlib.Core.Logic.{⊎-elim}
 use Prim.Native.Nat.{ℕ, _≤_, _-_}
 use native.Mathlib.Omega.{arith}
-use Rattle.numbers.specs.Bits.{hasb, adding, has-is}
+use Rattle.numbers.specs.Bits.{hasb, adding, has-is, with-is}
 use Rattle.terms.specs.Limits.{ACTORS}
 use Rattle.graph.specs.Rounds.{chosen}
 use Rattle.graph.proofs.Bounds.{chosen-next}
@@ -30,7 +30,7 @@ loop-again c =
       let has = has-is _ _ _ (c .before .has .ensures) in
           rw chosen-next
           (⊎-elim
-          (λ w. rw (has ∙ w .0 .taken, has-is _ _ _ (w .1 .ensures) ∙ not-true (w .1 .result) (w .2 .taken)) (w .4 ∙ w .3 .ensures ∙ ap (λ (s : ℕ). adding s (l .i)) (l .inv .1)))
+          (λ w. rw (has ∙ w .0 .taken, has-is _ _ _ (w .1 .ensures) ∙ not-true (w .1 .result) (w .2 .taken)) (w .4 ∙ with-is _ _ (w .3 .ensures) ∙ ap (λ (s : ℕ). adding s (l .i)) (l .inv .1)))
           (⊎-elim
           (λ w. rw (has ∙ w .0 .taken, has-is _ _ _ (w .1 .ensures) ∙ not-false (w .1 .result) (w .2 .left)) (w .3 ∙ l .inv .1))
           (λ w. rw (has ∙ w .0 .left) (w .1 ∙ l .inv .1)))

@@ -2,6 +2,7 @@
 use mathlib.Core.Path.{_≡_, refl}
 use Prim.Native.Nat.{_≤_, _-_}
 use native.Mathlib.Omega.{arith}
+use Rattle.numbers.specs.Bits.{with-is}
 use Rattle.graph.specs.Shape.{channelAt}
 use Rattle.graph.specs.Proper.{ProperChannel}
 use Rattle.graph.specs.Rounds.{predsFrom}
@@ -25,7 +26,7 @@ channel : (c : tie.After-channel Inv-loop μ-loop)
 channel c = c .before .before .before .pre .channel (c .before .before .loop .k) (c .before .loop-test .taken)
 
 loop-again : tie.Need-loop-again Inv-loop μ-loop
-loop-again c = (omega arith, simp preds-next (cc))
+loop-again c = (omega arith, simp preds-next (cc (with-is _ _ (c .with .ensures))))
 
 returns : tie.Need-returns Inv-loop μ-loop
 returns c = let e : c .before .loop .k ≡ c .before .before .args .t1 .count = omega arith in cc

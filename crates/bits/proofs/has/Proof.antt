@@ -1,12 +1,12 @@
--- numbers::bits::has meets its contract. Assumes nothing.
+-- bits::has meets its contract. Assumes nothing.
 use Prim.Native.Nat.{_/_, _^_}
 use borrow.Author.Needs.{needs}
 use native.Mathlib.Omega.{arith}
 use lib.Bits.{and-mask}
 use Rattle.numbers.specs.Bits.{bit, bit-shift, bit-out, Has}
 use Rattle.numbers.specs.Decides.{decides-no, decides-eqb}
-use Rattle.numbers.proofs.bits.has.Statement.{statement}
-use Rattle.numbers.proofs.bits.has.Tie as tie
+use Rattle.bits.proofs.has.Statement.{statement}
+use Rattle.bits.proofs.has.Tie as tie
 
 returns : tie.Need-returns
 returns c =

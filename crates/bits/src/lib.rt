@@ -1,8 +1,8 @@
 // A u16 as a set of the numbers below 16.
 ghost use mathlib.Core.Path.{_≡_};
 ghost use Prim.Native.Nat.{_<_};
-ghost use Rattle.numbers.specs.Bits.{Has, Within, size as sizeOf, adding, removing};
+ghost use Rattle.numbers.specs.Bits.{Has, With, Without, Within, size as sizeOf};
 ghost use Rattle.numbers.specs.Decides.{Decides};
 
 // Whether the set has i.
 pub fn has(set: u16, i: usize) -> bool
@@ -17,7 +17,7 @@ pub fn has(set: u16, i: usize) -> bool
 // The set with i.
 pub fn with(set: u16, i: usize) -> u16
     requires { ⌜ i < 16 ⌝ }
-    ensures { λ r. ⌜ r ≡ adding set i ⌝ }
+    ensures { λ r. ⌜ With set i r ⌝ }
 {
     set | (1u16 << i)
 }
@@ -25,7 +25,7 @@ pub fn with(set: u16, i: usize) -> u16
 // The set without i.
 pub fn without(set: u16, i: usize) -> u16
     requires { ⌜ i < 16 ⌝ }
-    ensures { λ r. ⌜ r ≡ removing set i ⌝ }
+    ensures { λ r. ⌜ Without set i r ⌝ }
 {
     if has(set, i) { set - (1u16 << i) } else { set }
 }

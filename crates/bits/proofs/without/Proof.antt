@@ -1,4 +1,4 @@
--- numbers::bits::without meets its contract. Assumes nothing.
+-- bits::without meets its contract. Assumes nothing.
 use mathlib.Core.Path.{_≡_, _∙_}
 use Prim.Native.Nat.{ℕ, _*_, _%_, _^_, _≤_}
 use native.Mathlib.Nat.{one-mul, zero-mul, sub-zero}
@@ -6,10 +6,10 @@ use native.Mathlib.Omega.{arith}
 use lib.Dec.{lit<}
 use lib.Pow.{shl-exact}
 use borrow.Author.Needs.{needs}
-use Rattle.numbers.specs.Bits.{has-pow, lacks}
+use Rattle.numbers.specs.Bits.{has-pow, has-removing, lacks}
 use Rattle.numbers.specs.Decides.{decides-true, decides-false}
-use Rattle.numbers.proofs.bits.without.Statement.{statement}
-use Rattle.numbers.proofs.bits.without.Tie as tie
+use Rattle.bits.proofs.without.Statement.{statement}
+use Rattle.bits.proofs.without.Tie as tie
 
 -- the shifted 1
 place : (i : ℕ) → i ≤ 15 → 1 * 2 ^ i % 2 ^ 16 ≡ 2 ^ i
@@ -23,12 +23,13 @@ sub-result c =
 returns : tie.Need-returns
 returns c =
     let b = c .before .before in
-    rw (place (b .args .i) (omega arith), decides-true (c .before .has .ensures) (c .if1 .taken), one-mul)
+    let e = rw (decides-true (c .before .has .ensures) (c .if1 .taken), one-mul) at (has-removing (b .args .set) (b .args .i)) in
+    rw (place (b .args .i) (omega arith)) e
 
 returns-2 : tie.Need-returns-2
 returns-2 c =
     let b = c .before .before in
-    rw (lacks (b .args .set) (b .args .i) (decides-false (c .before .has .ensures) (c .if1 .left)), zero-mul, sub-zero)
+    rw (lacks (b .args .set) (b .args .i) (decides-false (c .before .has .ensures) (c .if1 .left)), zero-mul, sub-zero) at (has-removing (b .args .set) (b .args .i))
 
 pub without-spec : {M : Type 1} → statement M
 without-spec = tie.close (tie.spec (λ c κs. search needs) (λ c. search needs) (λ c. search needs) sub-result returns returns-2)
