@@ -78,7 +78,7 @@ fn no_request() -> Request
     Request {
         good: false,
         mode: 0,
-        clock: Tick(0),
+        clock: Tick::NONE,
     }
 }
 
@@ -101,6 +101,6 @@ pub fn request_of(bytes: &[u8]) -> Request
     Request {
         good: true,
         mode: mode.value,
-        clock: Tick(clock.value),
+        clock: Tick::of(clock.value),
     }
 }

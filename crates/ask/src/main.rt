@@ -1,7 +1,7 @@
 // A machine on the plan of the table on standard input: the first argument is the starting mode, each further one a request, MODE@CLOCK.
 use asking::call;
 use libc::STDIN_FILENO;
-use terms::limits::MOST_BYTES;
+use units::limits::MOST_BYTES;
 
 fn main() {
     let mut text = [0u8; MOST_BYTES + 1];

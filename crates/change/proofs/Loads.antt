@@ -14,14 +14,15 @@ use Rattle.numbers.specs.Decides.{Decides, decides-unique, decides-and, decides
 use Rattle.numbers.specs.Fraction.{Proper, Same, sum-proper, sum-common, nothing}
 use Rattle.numbers.specs.Lowest.{FirstPasses, NonePasses, sought}
 use Rattle.numbers.specs.Sum.{sum, sum-le, sum-most}
-use Rattle.terms.specs.Limits.{ACTORS, MOST-WCET, ITERATION-LIMIT}
-use Rattle.terms.specs.Period.{partOf}
+use Rattle.units.specs.Bounds.{MOST-FIRINGS}
+use Rattle.units.specs.Limits.{ACTORS, MOST-WCET}
 use Rattle.units.specs.Ticks.{tick}
 use Rattle.units.specs.declared.Tick.{Tick}
 use Rattle.units.specs.declared.Firing.{Firing}
+use Rattle.terms.specs.Period.{workOf, partOf}
 use Rattle.graph.specs.declared.shape.Actor.{Actor}
 use Rattle.change.specs.declared.Running.{Running}
-use Rattle.change.specs.Work.{Fitting, actorAt, firingsAt, tickAt, workOf, between, countedOf, workBetween}
+use Rattle.change.specs.Work.{Fitting, actorAt, firingsAt, tickAt, between, countedOf, workBetween}
 use Rattle.change.specs.Change.{actorIn, startOf, askedBy, isOn, askedOf, Ready}
 
 -- works of actors within their ranges are summed within 64 bits
@@ -29,14 +30,14 @@ pub work-fits : (actors : List Actor) (firings : List Firing) (starts : List Tic
     → {v w : Tick} → v ≡ tick (sum (λ i. countedOf (actorAt actors i) (firingsAt firings i) (tickAt starts i) p a b .0) k)
     → w ≡ countedOf (actorAt actors k) (firingsAt firings k) (tickAt starts k) p a b → v .0 + w .0 < 2 ^ 64
 work-fits actors firings starts fits p a b k l e f =
-    rw (e, f) (omega (arith, sum-most (λ i. countedOf (actorAt actors i) (firingsAt firings i) (tickAt starts i) p a b .0) (ITERATION-LIMIT * MOST-WCET) k (λ i h. most i (omega arith)), most k l))
+    rw (e, f) (omega (arith, sum-most (λ i. countedOf (actorAt actors i) (firingsAt firings i) (tickAt starts i) p a b .0) (MOST-FIRINGS .0 * MOST-WCET .0) k (λ i h. most i (omega arith)), most k l))
   where
-    go : (x : Bool) (w : Tick) → w .0 ≤ ITERATION-LIMIT * MOST-WCET → cond x w (tick 0) .0 ≤ ITERATION-LIMIT * MOST-WCET
+    go : (x : Bool) (w : Tick) → w .0 ≤ MOST-FIRINGS .0 * MOST-WCET .0 → cond x w (tick 0) .0 ≤ MOST-FIRINGS .0 * MOST-WCET .0
     go true w h = h
     go false w h = zero-le
 
-    most : (i : ℕ) → i < ACTORS → countedOf (actorAt actors i) (firingsAt firings i) (tickAt starts i) p a b .0 ≤ ITERATION-LIMIT * MOST-WCET
-    most i h = go (between (actorAt actors i) (tickAt starts i) p a b) (workOf (actorAt actors i) (firingsAt firings i)) (omega (arith, mul-le-mul (fits .few i h) (fits .wcet i h)))
+    most : (i : ℕ) → i < ACTORS → countedOf (actorAt actors i) (firingsAt firings i) (tickAt starts i) p a b .0 ≤ MOST-FIRINGS .0 * MOST-WCET .0
+    most i h = go (between (actorAt actors i) (tickAt starts i) p a b) (workOf (actorAt actors i .wcet) (firingsAt firings i)) (omega (arith, mul-le-mul (fits .few i h) (fits .wcet i h)))
 
 -- the work of the actors on processor p that start from a to b
 abbrev pub workIn : Running → ℕ → ℕ → ℕ → ℕ
@@ -51,7 +52,7 @@ module _ (r : Running) (p : ℕ) where
   test a b i = between (actorIn r i) (tickAt (r .starts) i) p (tick a) (tick b)
 
   abbrev work : ℕ → Tick
-  work i = workOf (actorIn r i) (firingsAt (r .firings) i)
+  work i = workOf (actorIn r i .wcet) (firingsAt (r .firings) i)
 
   abbrev counted : ℕ → ℕ → ℕ → ℕ
   counted a b i = cond (test a b i) (work i) (tick 0) .0
@@ -76,7 +77,7 @@ module _ (r : Running) (p : ℕ) where
   work-same a b c d h = le-antisymm (work-within a b c d (λ i l. h i l .0)) (work-within c d a b (λ i l. h i l .1))
 
   -- none that works, no work
-  pub work-none : (a b : ℕ) → ((i : ℕ) → i < ACTORS → Between r p a b i → workOf (actorIn r i) (firingsAt (r .firings) i) .0 ≡ 0) → workIn r p a b ≡ 0
+  pub work-none : (a b : ℕ) → ((i : ℕ) → i < ACTORS → Between r p a b i → workOf (actorIn r i .wcet) (firingsAt (r .firings) i) .0 ≡ 0) → workIn r p a b ≡ 0
   work-none a b h =
       omega (arith, sum-most (counted a b) 0 ACTORS (λ i l. go (test a b i) (work i) (λ t. h i l (between-is a b i .0 t))))
     where
@@ -153,7 +154,7 @@ module _ (r : Running) (p : ℕ) where
 
 module _ (r : Running) (ready : Ready r) where
   -- an actor that does not run does not work, and processor 0 has no other
-  idle : (i : ℕ) → i < ACTORS → bit (r .active) i ≡ 0 → workOf (actorIn r i) (firingsAt (r .firings) i) .0 ≡ 0
+  idle : (i : ℕ) → i < ACTORS → bit (r .active) i ≡ 0 → workOf (actorIn r i .wcet) (firingsAt (r .firings) i) .0 ≡ 0
   idle i l z = rw (ready .no-actor i l (λ h. omega arith)) (omega arith)
 
   pub work-nowhere : (a b : ℕ) → workIn r 0 a b ≡ 0

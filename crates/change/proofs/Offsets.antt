@@ -15,10 +15,10 @@ use Rattle.numbers.specs.Extreme.{mostOf, most-next, most-above, most-within, m
 use Rattle.numbers.specs.Fraction.{AtMost, plus, same-plus, same-at-most, atMostb}
 use Rattle.numbers.specs.Tab.{getD-tab}
 use Rattle.numbers.specs.declared.fraction.Fraction.{Fraction}
-use Rattle.terms.specs.Limits.{ACTORS, PROCESSORS, LOAD-LIMIT}
-use Rattle.terms.specs.Period.{partOf}
-use Rattle.units.specs.Ticks.{tick, minusOf, laterOf}
+use Rattle.units.specs.Limits.{ACTORS, PROCESSORS, LOAD-LIMIT}
+use Rattle.units.specs.Ticks.{tick, minusTicks, greaterTick}
 use Rattle.units.specs.declared.Tick.{Tick}
+use Rattle.terms.specs.Period.{partOf}
 use Rattle.change.specs.declared.Running.{Running}
 use Rattle.change.specs.Work.{tickAt}
 use Rattle.change.specs.Change.{Runs, actorIn, startOf, askedOf, loadAt, Bearable, Bears, Overlap, Offset, Ready}
@@ -184,7 +184,7 @@ module _ (limit : Fraction) where
         rw (since-is old ready-old i li, until-is new ready-new j lj) (go (eqb (actorIn old i .processor) (actorIn new j .processor)) refl (atMostb (together old new i j) limit) refl)
       where
         go : (x : Bool) → eqb (actorIn old i .processor) (actorIn new j .processor) ≡ x → (y : Bool) → atMostb (together old new i j) limit ≡ y
-            → (cond x (cond y (tick 0) (minusOf (tickAt (old .starts) i) (tickAt (new .starts) j))) (tick 0) .0 ≤ d) ↔ Waits limit old new d i j
+            → (cond x (cond y (tick 0) (minusTicks (tickAt (old .starts) i) (tickAt (new .starts) j))) (tick 0) .0 ≤ d) ↔ Waits limit old new d i j
         go false e y f = ((λ h same n. absurd (eqb-false _ _ e same)), (λ w. zero-le))
         go true e true f = ((λ h same n. absurd (n (leb-true _ _ f))), (λ w. zero-le))
         go true e false f = (
@@ -215,7 +215,7 @@ module _ (limit : Fraction) where
         waits-bears (old .startup .0) (λ i j li lj e n. omega (arith, ready-old .start i li)) own-old own-new
 
     -- the later of the overlap and what is found is the offset
-    pub offset-is : Bearable limit old → Bearable limit new → Offset limit old new (overlapOf old new) (laterOf (overlapOf old new) (offsetFrom limit old new))
+    pub offset-is : Bearable limit old → Bearable limit new → Offset limit old new (overlapOf old new) (greaterTick (overlapOf old new) (offsetFrom limit old new))
     offset-is own-old own-new =
         record {
           holds = (
@@ -254,7 +254,7 @@ module _ (r : Running) (ready : Ready r) (i : ℕ) (l : i < ACTORS) where
   until-part = rw (until-is r ready i l) (work-part _ _)
 
 -- what is found, under the limit in force
-pub found : (old new : Running) → Ready old → Ready new → {x o d : Tick} → x ≡ overlapOf old new → o ≡ offsetFrom LOAD-LIMIT old new → d ≡ laterOf x o
+pub found : (old new : Running) → Ready old → Ready new → {x o d : Tick} → x ≡ overlapOf old new → o ≡ offsetFrom LOAD-LIMIT old new → d ≡ greaterTick x o
     → Overlap old new x × Offset LOAD-LIMIT old new x d
 found old new ready-old ready-new e f g =
     rw (g, e, f) (overlap-is old new, offset-is LOAD-LIMIT old new ready-old ready-new (ready-old .load) (ready-new .load))

@@ -2,17 +2,18 @@
 use mathlib.Core.Path.{_≡_, refl, sym, ap, subst, _∙_}
 use mathlib.Core.Bool.{Bool, true, cond, _&&_}
 use mathlib.Core.Logic.{_⊎_, inr}
-use Prim.Native.Nat.{ℕ, _+_, _-_, _*_, _^_, _≤_, _<_}
+use Prim.Native.Nat.{ℕ, _+_, _-_, _*_, _≤_, _<_}
 use native.Mathlib.Omega.{arith}
 use lib.Dec.{eqb, leb, ltb}
 use Rattle.numbers.specs.Bits.{Has, hasb}
 use Rattle.numbers.specs.Extreme.{Least, Greatest, least-unique, greatest-unique}
 use Rattle.numbers.specs.Fraction.{AtMost, plus, sumOf, nothing}
 use Rattle.numbers.specs.declared.fraction.Fraction.{Fraction}
-use Rattle.terms.specs.Limits.{ACTORS, PROCESSORS, ITERATION-LIMIT, LOAD-LIMIT}
-use Rattle.terms.specs.Period.{partOf}
+use Rattle.units.specs.Bounds.{MOST-START}
+use Rattle.units.specs.Limits.{ACTORS, PROCESSORS, ITERATION-LIMIT, LOAD-LIMIT}
 use Rattle.units.specs.Ticks.{tick}
 use Rattle.units.specs.declared.Tick.{Tick}
+use Rattle.terms.specs.Period.{partOf}
 use Rattle.graph.specs.declared.shape.Actor.{Actor}
 use Rattle.graph.specs.Shape.{noActor}
 use Rattle.graph.specs.Proper.{ProperActor}
@@ -72,10 +73,6 @@ pub record Changes (old new : Running) (r : Timing) : Type 0 where
   pub offset : Offset LOAD-LIMIT old new (r .overlap) (r .offset)
   pub worst : r .worst ≡ worstOf old new (r .offset)
 
--- the longest start-up, in ticks
-abbrev pub MOST-STARTUP : ℕ
-MOST-STARTUP = 2 ^ 32
-
 -- A mode that is planned: its actors in their ranges, their firings and periods fill the iteration, none starts after the end of the start-up,
 -- no processor is asked for more than the limit, and its works are summed.
 pub record Ready (r : Running) : Type 0 where
@@ -84,9 +81,9 @@ pub record Ready (r : Running) : Type 0 where
   pub period : (i : ℕ) → Runs r i → 0 < tickAt (r .periods) i .0
   pub whole : (i : ℕ) → Runs r i → firingsAt (r .firings) i .0 * tickAt (r .periods) i .0 ≡ r .iteration .0
   pub start : (i : ℕ) → i < ACTORS → startOf r i ≤ r .startup .0
-  pub startup : r .startup .0 ≤ MOST-STARTUP
+  pub startup : r .startup .0 ≤ MOST-START .0
   pub some-tick : 0 < r .iteration .0
-  pub iteration : r .iteration .0 ≤ ITERATION-LIMIT
+  pub iteration : r .iteration .0 ≤ ITERATION-LIMIT .0
   pub load : Bearable LOAD-LIMIT r
   pub since : r .since ≡ sincesOf (r .actors) (r .firings) (r .starts) (r .startup)
   pub until : r .until ≡ untilsOf (r .actors) (r .firings) (r .starts)

@@ -7,10 +7,10 @@ use Rattle.numbers.specs.Bits.{hasb}
 use Rattle.numbers.specs.Extreme.{mostOf}
 use Rattle.numbers.specs.Fraction.{plus, atMostb}
 use Rattle.numbers.specs.declared.fraction.Fraction.{Fraction}
-use Rattle.terms.specs.Limits.{ACTORS, ITERATION-LIMIT}
-use Rattle.terms.specs.Period.{partOf}
-use Rattle.units.specs.Ticks.{tick, minusOf}
+use Rattle.units.specs.Limits.{ACTORS, ITERATION-LIMIT}
+use Rattle.units.specs.Ticks.{tick, minusTicks}
 use Rattle.units.specs.declared.Tick.{Tick}
+use Rattle.terms.specs.Period.{partOf}
 use Rattle.change.specs.declared.Running.{Running}
 use Rattle.change.specs.declared.wait.Side.{Side}
 use Rattle.change.specs.Work.{tickAt}
@@ -20,7 +20,7 @@ use Rattle.change.specs.Change.{actorIn, startOf}
 pub record Part (a : Fraction) : Type 0 where
   pub some : 0 < a .under
   pub part : a .over ≤ a .under
-  pub whole : a .under ≤ ITERATION-LIMIT
+  pub whole : a .under ≤ ITERATION-LIMIT .0
 
 abbrev pub leadOf : Running → Running → ℕ → ℕ
 leadOf old new i = cond (hasb (bitAnd (old .active) (new .active)) i) (startOf old i - startOf new i) 0
@@ -36,7 +36,7 @@ abbrev pub newSide : Running → ℕ → Side
 newSide r j = record { processor = actorIn r j .processor; start = tickAt (r .starts) j; asked = partOf (tickAt (r .until) j) (r .iteration) }
 
 abbrev pub waitOf : Fraction → Side → Side → Tick
-waitOf limit a b = cond (eqb (a .processor) (b .processor)) (cond (atMostb (plus (a .asked) (b .asked)) limit) (tick 0) (minusOf (a .start) (b .start))) (tick 0)
+waitOf limit a b = cond (eqb (a .processor) (b .processor)) (cond (atMostb (plus (a .asked) (b .asked)) limit) (tick 0) (minusTicks (a .start) (b .start))) (tick 0)
 
 -- how long the new mode waits: the greatest over the pairs of an old actor and a new one, the pair of i and j at ACTORS * i + j
 abbrev pub pairWait : Fraction → Running → Running → ℕ → ℕ

@@ -7,11 +7,13 @@ use lib.Dec.{eqb, leb}
 use lib.ListN.{length, getD}
 use Rattle.numbers.specs.Sum.{sum}
 use Rattle.numbers.specs.Tab.{tab}
-use Rattle.terms.specs.Limits.{ACTORS, MOST-WCET, ITERATION-LIMIT}
-use Rattle.terms.specs.Period.{firing, beginsAt}
+use Rattle.units.specs.Bounds.{MOST-FIRINGS}
+use Rattle.units.specs.Limits.{ACTORS, MOST-WCET}
+use Rattle.units.specs.Firings.{firing}
 use Rattle.units.specs.Ticks.{tick}
 use Rattle.units.specs.declared.Tick.{Tick}
 use Rattle.units.specs.declared.Firing.{Firing}
+use Rattle.terms.specs.Period.{workOf}
 use Rattle.graph.specs.declared.shape.Actor.{Actor}
 use Rattle.graph.specs.Shape.{noActor}
 use Rattle.change.specs.declared.Running.{Running}
@@ -31,12 +33,8 @@ pub record Fitting (actors : List Actor) (firings : List Firing) (starts : List 
   pub actors-long : length actors ≡ ACTORS
   pub firings-long : length firings ≡ ACTORS
   pub starts-long : length starts ≡ ACTORS
-  pub wcet : (i : ℕ) → i < ACTORS → actorAt actors i .wcet .0 ≤ MOST-WCET
-  pub few : (i : ℕ) → i < ACTORS → firingsAt firings i .0 ≤ ITERATION-LIMIT
-
--- the work of an actor in an iteration: as many times its wcet as it has firings
-abbrev pub workOf : Actor → Firing → Tick
-workOf actor firings = beginsAt (tick 0) (actor .wcet) firings
+  pub wcet : (i : ℕ) → i < ACTORS → actorAt actors i .wcet .0 ≤ MOST-WCET .0
+  pub few : (i : ℕ) → i < ACTORS → firingsAt firings i .0 ≤ MOST-FIRINGS .0
 
 -- whether an actor is on processor p and starts at one of the ticks from a to b
 abbrev pub between : Actor → Tick → ℕ → Tick → Tick → Bool
@@ -44,7 +42,7 @@ between actor start p a b = eqb (actor .processor) p && (leb (a .0) (start .0) &
 
 -- its work, where it is and does
 abbrev pub countedOf : Actor → Firing → Tick → ℕ → Tick → Tick → Tick
-countedOf actor firings start p a b = cond (between actor start p a b) (workOf actor firings) (tick 0)
+countedOf actor firings start p a b = cond (between actor start p a b) (workOf (actor .wcet) firings) (tick 0)
 
 -- the work of all such actors
 abbrev pub workBetween : List Actor → List Firing → List Tick → ℕ → Tick → Tick → Tick

@@ -7,9 +7,9 @@ use crate::wait::overlap_of;
 use crate::work::sinces;
 use crate::work::untils;
 use graph::shape::Actor;
-use terms::limits::ACTORS;
 use units::Firing;
 use units::Tick;
+use units::limits::ACTORS;
 ghost use mathlib.Core.Path.{_≡_};
 ghost use Rattle.change.specs.Work.{Fitting, preparedOf};
 ghost use Rattle.change.specs.Change.{Ready, Changes};
@@ -67,10 +67,13 @@ pub fn change(old: Running, new: Running) -> Timing
     ensures { λ r. ⌜ Changes old new r ⌝ }
 {
     let overlap = overlap_of(old, new);
-    let offset = overlap.later(offset_of(old, new));
+    let offset = overlap.greater(offset_of(old, new));
     Timing {
         overlap: overlap,
         offset: offset,
-        worst: offset.plus(new.startup).plus(old.iteration).minus(Tick(1)),
+        worst: offset
+            .plus(new.startup)
+            .plus(old.iteration)
+            .minus(Tick::ONE),
     }
 }

@@ -4,12 +4,12 @@ use bits::has;
 use numbers::fraction::Fraction;
 use numbers::fraction::at_most;
 use numbers::fraction::plus;
-use terms::limits::ACTORS;
-use terms::limits::LOAD_LIMIT;
 use terms::period;
 use units::Tick;
+use units::limits::ACTORS;
+use units::limits::LOAD_LIMIT;
 ghost use mathlib.Core.Path.{_≡_};
-ghost use Rattle.terms.specs.Limits.{LOAD-LIMIT};
+ghost use Rattle.units.specs.Limits.{LOAD-LIMIT};
 ghost use Rattle.change.specs.Change.{Ready};
 ghost use Rattle.change.specs.Waits.{Part, overlapOf, waitOf, offsetFrom};
 
@@ -19,11 +19,11 @@ pub(crate) fn overlap_of(old: Running, new: Running) -> Tick
     ensures { λ r. ⌜ r ≡ overlapOf old new ⌝ }
 {
     let both = old.active & new.active;
-    let mut most = Tick(0);
+    let mut most = Tick::NONE;
     for i in 0..ACTORS {
         if has(both, i) {
             let start = old.starts[i];
-            most = most.later(start.minus(new.starts[i]));
+            most = most.greater(start.minus(new.starts[i]));
         }
     }
     most
@@ -42,13 +42,13 @@ fn wait(old: Side, new: Side) -> Tick
     ensures { λ r. ⌜ r ≡ waitOf LOAD-LIMIT old new ⌝ }
 {
     if old.processor != new.processor {
-        return Tick(0);
+        return Tick::NONE;
     }
-    if old.start.by(new.start) {
-        return Tick(0);
+    if old.start.at_most(new.start) {
+        return Tick::NONE;
     }
     if at_most(plus(old.asked, new.asked), LOAD_LIMIT) {
-        return Tick(0);
+        return Tick::NONE;
     }
     old.start.minus(new.start)
 }
@@ -58,7 +58,7 @@ pub(crate) fn offset_of(old: Running, new: Running) -> Tick
     requires { ⌜ Ready old × Ready new ⌝ }
     ensures { λ r. ⌜ r ≡ offsetFrom LOAD-LIMIT old new ⌝ }
 {
-    let mut most = Tick(0);
+    let mut most = Tick::NONE;
     for n in 0..ACTORS * ACTORS {
         let i = n / ACTORS;
         let j = n % ACTORS;
@@ -74,7 +74,7 @@ pub(crate) fn offset_of(old: Running, new: Running) -> Tick
             start: new.starts[j],
             asked: period::part(new.until[j], new.iteration),
         };
-        most = most.later(wait(left, entered));
+        most = most.greater(wait(left, entered));
     }
     most
 }

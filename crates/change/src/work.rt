@@ -1,12 +1,13 @@
 // The work of the actors that start between two ticks.
 use graph::shape::Actor;
-use terms::limits::ACTORS;
 use terms::period;
 use units::Firing;
 use units::Tick;
+use units::limits::ACTORS;
 ghost use mathlib.Core.Path.{_≡_};
 ghost use Prim.Native.Nat.{_≤_};
-ghost use Rattle.terms.specs.Limits.{MOST-WCET, ITERATION-LIMIT};
+ghost use Rattle.units.specs.Bounds.{MOST-FIRINGS};
+ghost use Rattle.units.specs.Limits.{MOST-WCET};
 ghost use Rattle.change.specs.Work.{Fitting, countedOf, workBetween, sincesOf, untilsOf};
 
 // The ticks of an iteration that an actor works, where it is on the processor and starts between the two ticks; none otherwise.
@@ -18,19 +19,19 @@ fn counted(
     from: Tick,
     to: Tick,
 ) -> Tick
-    requires { ⌜ (actor .wcet .0 ≤ MOST-WCET) × (firings .0 ≤ ITERATION-LIMIT) ⌝ }
+    requires { ⌜ (actor .wcet .0 ≤ MOST-WCET .0) × (firings .0 ≤ MOST-FIRINGS .0) ⌝ }
     ensures { λ r. ⌜ r ≡ countedOf actor firings start processor from to ⌝ }
 {
     if actor.processor != processor {
-        return Tick(0);
+        return Tick::NONE;
     }
-    if !from.by(start) {
-        return Tick(0);
+    if !from.at_most(start) {
+        return Tick::NONE;
     }
-    if !start.by(to) {
-        return Tick(0);
+    if !start.at_most(to) {
+        return Tick::NONE;
     }
-    period::begins(Tick(0), actor.wcet, firings)
+    period::work(actor.wcet, firings)
 }
 
 fn work_between(
@@ -44,7 +45,7 @@ fn work_between(
     requires { ⌜ Fitting actors firings starts ⌝ }
     ensures { λ r. ⌜ r ≡ workBetween actors firings starts processor from to ⌝ }
 {
-    let mut work = Tick(0);
+    let mut work = Tick::NONE;
     for k in 0..ACTORS {
         work = work.plus(counted(actors[k], firings[k], starts[k], processor, from, to));
     }
@@ -60,7 +61,7 @@ pub(crate) fn sinces(
     requires { ⌜ Fitting actors firings starts ⌝ }
     ensures { λ r. ⌜ r ≡ sincesOf actors firings starts startup ⌝ }
 {
-    let mut since = [Tick(0); ACTORS];
+    let mut since = [Tick::NONE; ACTORS];
     for i in 0..ACTORS {
         let actor = actors[i];
         since[i] = work_between(actors, firings, starts, actor.processor, starts[i], startup);
@@ -76,10 +77,17 @@ pub(crate) fn untils(
     requires { ⌜ Fitting actors firings starts ⌝ }
     ensures { λ r. ⌜ r ≡ untilsOf actors firings starts ⌝ }
 {
-    let mut until = [Tick(0); ACTORS];
+    let mut until = [Tick::NONE; ACTORS];
     for i in 0..ACTORS {
         let actor = actors[i];
-        until[i] = work_between(actors, firings, starts, actor.processor, Tick(0), starts[i]);
+        until[i] = work_between(
+            actors,
+            firings,
+            starts,
+            actor.processor,
+            Tick::NONE,
+            starts[i],
+        );
     }
     until
 }

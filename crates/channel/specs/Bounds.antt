@@ -1,50 +1,47 @@
 -- How great the numbers of one channel become: all fit.
-use mathlib.Core.Path.{_≡_, sym, ap, ap₂, subst, subst₂, _∙_}
+use mathlib.Core.Path.{refl, _≡_, sym, ap, ap₂, subst, _∙_}
 use mathlib.Core.Bool.{cond}
 use mathlib.Core.List.{List}
-use Prim.Native.Nat.{ℕ, _+_, _*_, _/_, _^_, _≤_, _<_, zero-le}
-use native.Mathlib.Nat.{le-trans, le-of-dvd, div-le-self, mul-le-mul, mul-le-mul-right, div-mul-le-self, le-refl, le-of-lt, div-mul-cancel, add-zero, zero-max, max-le, sub-le}
+use Prim.Native.Nat.{ℕ, _+_, _*_, _/_, _≤_, _<_, zero-le}
+use native.Mathlib.Nat.{le-trans, le-of-dvd, div-le-self, mul-le-mul, mul-le-mul-right, div-mul-le-self, le-refl, le-of-lt, add-zero, zero-max, max-le, sub-le}
 use native.Mathlib.Omega.{arith}
 use lib.Dec.{eqb}
 use lib.ListN.{getD}
-use Rattle.numbers.specs.Common.{IsGcd}
-use Rattle.numbers.specs.Euclid.{gcd-unique}
 use Rattle.numbers.specs.Extreme.{most-same, most-within}
 use Rattle.numbers.specs.Sum.{sum-next}
 use Rattle.numbers.specs.Filled.{Filled, FilledBy, filled-weaker}
 use Rattle.numbers.specs.Reckoned.{gcd-of}
 use Rattle.units.specs.declared.Tick.{Tick}
 use Rattle.units.specs.declared.Token.{Token}
-use Rattle.units.specs.Ticks.{tick, plusOf, timesOf, overOf}
-use Rattle.units.specs.Tokens.{token, addedOf, foldOf}
-use Rattle.terms.specs.Limits.{PHASES, MOST-RATE, ITERATION-LIMIT}
-use Rattle.terms.specs.Period.{firing, beginsAt, endsAt}
+use Rattle.units.specs.Ticks.{tick, plusTicks}
+use Rattle.units.specs.Tokens.{token, plusTokens, timesTokens}
+use Rattle.units.specs.Bounds.{MOST-TOKENS, MOST-START, MOST-SIZE}
+use Rattle.units.specs.Limits.{PHASES, MOST-RATE, ITERATION-LIMIT}
+use Rattle.units.specs.Firings.{firing}
+use Rattle.terms.specs.Period.{beginsAt, endsAt}
+use Rattle.terms.specs.declared.pace.Step.{Step}
+use Rattle.terms.specs.Pace.{IsStep, step-unique}
 use Rattle.terms.specs.Rate.{rateOf, tokensOf}
 use Rattle.channel.specs.declared.End.{End}
 use Rattle.channel.specs.declared.pace.Pace.{Pace}
 use Rattle.channel.specs.declared.waits.Mark.{Mark}
 use Rattle.channel.specs.declared.claims.Hold.{Hold}
-use Rattle.channel.specs.Cycles.{factor-pos}
-use Rattle.channel.specs.Flow.{ratesOf, IsSize, Proper, Paced, cycleTokens, cycleTicks, MOST-START}
-use Rattle.channel.specs.Phases.{noMark, noHold, paceOf, commonOf, giveOf, giveAt, takeOf, takeAt, waitOf, latestOf, startOf, claimingAt, backAt, claimOf, greatestOf, present, sizeOf, claimingOf, backOf, cyclesOf}
+use Rattle.channel.specs.Flow.{ratesOf, IsSize, Proper, Paced, cycleTokens, cycleTicks}
+use Rattle.channel.specs.Phases.{noMark, noHold, stepOf, paceOf, giveOf, giveAt, takeOf, takeAt, waitOf, latestOf, startOf, claimingAt, backAt, claimOf, greatestOf, present, sizeOf, claimingOf, backOf, cyclesOf}
 use Rattle.channel.specs.Laws.{rate-at, tokens-most, cycle-p, cycle-c, in-step, claimed-with, size-most}
 
 -- an end of its parts
 abbrev pub endOf : List ℕ → Tick → ℕ → End
 endOf rates period n = record { phases = n; rates = rates; period = period }
 
--- the tokens of a cycle
-abbrev pub MOST-TOKENS : ℕ
-MOST-TOKENS = PHASES * MOST-RATE
-
 -- the cycles of the producer that are added
-abbrev pub MOST-CYCLES : ℕ
-MOST-CYCLES = MOST-START + 2
+abbrev pub MOST-ADDED : ℕ
+MOST-ADDED = MOST-START .0 + 2
 
 -- an end within the limits, whose cycle is not longer than an iteration
 pub record Brief (e : End) : Type 0 where
   pub proper : Proper e
-  pub cycle : cycleTicks e .0 ≤ ITERATION-LIMIT
+  pub cycle : cycleTicks e .0 ≤ ITERATION-LIMIT .0
 
 module _ (p c : End) (w : Paced p c) where
   pub brief-p : Brief p
@@ -53,52 +50,40 @@ module _ (p c : End) (w : Paced p c) where
   pub brief-c : Brief c
   brief-c = record { proper = w .consumer; cycle = cycle-c p c w }
 
-pub cycle-most : (e : End) → Proper e → cycleTokens e .0 ≤ MOST-TOKENS
-cycle-most e h = le-trans (tokens-most e h (e .phases) (le-refl (e .phases))) (mul-le-mul-right MOST-RATE (h .phases))
+pub cycle-most : (e : End) → Proper e → cycleTokens e .0 ≤ MOST-TOKENS .0
+cycle-most e h = le-trans (tokens-most e h (e .phases) (le-refl (e .phases))) (mul-le-mul-right (MOST-RATE .0) (h .phases))
 
 module _ (p c : End) where
-  -- the pace, from what it is made of
-  pub common-is : {made taken common : Token} → made ≡ cycleTokens p → taken ≡ cycleTokens c → IsGcd (made .0) (taken .0) (common .0) → common ≡ commonOf p c
-  common-is {made} {taken} {common} e f is =
-      λ i. token (gcd-unique (subst₂ (λ (x y : Token). IsGcd (x .0) (y .0) (common .0)) e f is) (gcd-of (cycleTokens p .0) (cycleTokens c .0)) i)
+  -- the step and the pace, from what they are made of
+  pub step-is : {made taken : Token} {cycle : Tick} {w : Step} → made ≡ cycleTokens p → cycle ≡ cycleTicks p → taken ≡ cycleTokens c → IsStep made cycle taken w → w ≡ stepOf p c
+  step-is {made} {taken} {cycle} {w} em ec et is =
+      step-unique (cycleTokens p) (cycleTicks p) (cycleTokens c) (rw (em, ec, et) at is) (record { tokens = gcd-of (cycleTokens p .0) (cycleTokens c .0); ticks = refl })
 
-  pub pace-is : (k : ℕ) {made common tokens : Token} {cycle step ticks : Tick} {n : ℕ} → made ≡ cycleTokens p → cycle ≡ cycleTicks p → common ≡ commonOf p c
-      → n ≡ made .0 / common .0 → step ≡ overOf cycle n → tokens ≡ foldOf made k → ticks ≡ timesOf cycle k
-      → _≡_ {A = Pace} (record { common = common; step = step; tokens = tokens; ticks = ticks }) (paceOf p c k)
-  pace-is k em ec eg en es et eu =
-      λ i. record {
-        common = eg i;
-        step = (es ∙ ap₂ overOf ec (en ∙ ap₂ (λ (x y : Token). x .0 / y .0) em eg)) i;
-        tokens = (et ∙ ap (λ (x : Token). foldOf x k) em) i;
-        ticks = (eu ∙ ap (λ (x : Tick). timesOf x k) ec) i;
-      }
-
-  pub common-pos : Paced p c → 0 < commonOf p c .0
+  pub common-pos : Paced p c → 0 < stepOf p c .tokens .0
   common-pos w = in-step p c w 1 .some-g
-
-  pub parts-pos : Paced p c → 0 < cycleTokens p .0 / commonOf p c .0
-  parts-pos w =
-      let m = gcd-of (cycleTokens p .0) (cycleTokens c .0) in
-      factor-pos (cycleTokens p .0) (cycleTokens p .0 / commonOf p c .0) (commonOf p c .0) (w .producer .moves) (sym (div-mul-cancel (commonOf p c .0) (m .left)))
 
 -- what a start is reckoned with: a pace with one cycle of the producer, and a phase not long after the start
 pub record Short (w : Pace) : Type 0 where
-  pub some : 0 < w .common .0
-  pub step : w .step .0 ≤ ITERATION-LIMIT
-  pub tokens : w .tokens .0 ≤ MOST-TOKENS
-  pub ticks : w .ticks .0 ≤ ITERATION-LIMIT
+  pub some : 0 < w .step .tokens .0
+  pub step : w .step .ticks .0 ≤ ITERATION-LIMIT .0
+  pub tokens : w .tokens .0 ≤ MOST-TOKENS .0
+  pub ticks : w .ticks .0 ≤ ITERATION-LIMIT .0
 
 pub record Early (t : Tick) (n : Token) : Type 0 where
-  pub at : t .0 ≤ MOST-START + ITERATION-LIMIT + 1
-  pub tokens : n .0 ≤ MOST-TOKENS + 1
+  pub at : t .0 ≤ MOST-START .0 + ITERATION-LIMIT .0 + 1
+  pub tokens : n .0 ≤ MOST-TOKENS .0 + 1
 
 -- ticks that are far from the end of the clock
-abbrev pub FAR : ℕ
-FAR = 2 ^ 48
+abbrev pub FAR : Tick
+FAR = tick (MOST-START .0 + (2 * MOST-TOKENS .0 + 2) * ITERATION-LIMIT .0)
+
+-- and tokens that are
+abbrev pub MANY : Token
+MANY = timesTokens (2 * MOST-START .0 + 3 * ITERATION-LIMIT .0 + 1) MOST-TOKENS
 
 pub record Near (m : Mark) : Type 0 where
-  pub later : m .later .0 ≤ FAR
-  pub sooner : m .sooner .0 ≤ FAR
+  pub later : m .later .0 ≤ FAR .0
+  pub sooner : m .sooner .0 ≤ FAR .0
 
 -- an array that is filled with f 0, f 1, .. of which every one has the property P
 given-ready : {A : Type 0} (z : A) (P : A → Type 0) (f : ℕ → A) (n : ℕ) (l : List A) → ((s : ℕ) → s < n → P (f s)) → FilledBy PHASES f z l n
@@ -110,42 +95,42 @@ module _ (w : Pace) (t : Tick) (n : Token) (h : Short w) (e : Early t n) where
   give-near =
       record {
         later = omega (arith, e .at);
-        sooner = omega (arith, mul-le-mul (le-trans (div-le-self (n .0) (w .common .0)) (e .tokens)) (h .step));
+        sooner = omega (arith, mul-le-mul (le-trans (div-le-self (n .0) (w .step .tokens .0)) (e .tokens)) (h .step));
       }
 
   pub take-near : Near (takeOf w t n)
   take-near =
-      let few : (n .0 + w .tokens .0) / w .common .0 ≤ MOST-TOKENS + 1 + MOST-TOKENS =
-      le-trans (div-le-self (n .0 + w .tokens .0) (w .common .0)) (omega (arith, e .tokens, h .tokens)) in
+      let few : (n .0 + w .tokens .0) / w .step .tokens .0 ≤ MOST-TOKENS .0 + 1 + MOST-TOKENS .0 =
+      le-trans (div-le-self (n .0 + w .tokens .0) (w .step .tokens .0)) (omega (arith, e .tokens, h .tokens)) in
       record { later = omega (arith, mul-le-mul few (h .step)); sooner = omega (arith, e .at, h .ticks) }
 
 -- the phases of an end: what they move, and when they begin and end
 module _ (e : End) (h : Proper e) where
-  pub tokens-by : (k : ℕ) → k ≤ e .phases → tokensOf (ratesOf e) (firing k) .0 ≤ MOST-TOKENS
-  tokens-by k l = le-trans (tokens-most e h k l) (mul-le-mul-right MOST-RATE (le-trans l (h .phases)))
+  pub tokens-by : (k : ℕ) → k ≤ e .phases → tokensOf (ratesOf e) (firing k) .0 ≤ MOST-TOKENS .0
+  tokens-by k l = le-trans (tokens-most e h k l) (mul-le-mul-right (MOST-RATE .0) (le-trans l (h .phases)))
 
-  pub rate-by : (k : ℕ) → k < e .phases → getD (e .rates) k 0 ≤ MOST-RATE
+  pub rate-by : (k : ℕ) → k < e .phases → getD (e .rates) k 0 ≤ MOST-RATE .0
   rate-by k l = h .rates k (omega (arith, h .phases))
 
   -- one phase more, as a loop counts
-  pub tokens-next : (k : ℕ) {made m r : Token} → k < e .phases → made ≡ tokensOf (ratesOf e) (firing k) → m ≡ token (getD (e .rates) k 0) → r ≡ addedOf made m
+  pub tokens-next : (k : ℕ) {made m r : Token} → k < e .phases → made ≡ tokensOf (ratesOf e) (firing k) → m ≡ token (getD (e .rates) k 0) → r ≡ plusTokens made m
       → r ≡ tokensOf (ratesOf e) (firing (k + 1))
   tokens-next k l em er eq =
-      eq ∙ ap₂ addedOf em (er ∙ (λ i. token (sym (rate-at e h k l) i))) ∙ (λ i. token (sym (sum-next (rateOf (ratesOf e)) k) i))
+      eq ∙ ap₂ plusTokens em (er ∙ (λ i. token (sym (rate-at e h k l) i))) ∙ (λ i. token (sym (sum-next (rateOf (ratesOf e)) k) i))
 
-pub ends-by : (e : End) (s : ℕ) → Brief e → s < e .phases → (s + 1) * e .period .0 ≤ ITERATION-LIMIT
+pub ends-by : (e : End) (s : ℕ) → Brief e → s < e .phases → (s + 1) * e .period .0 ≤ ITERATION-LIMIT .0
 ends-by e s h l = omega (arith, h .cycle, mul-le-mul-right (e .period .0) l)
 
 -- phases are early
 module _ (e : End) (s : ℕ) (h : Brief e) (l : s < e .phases) where
-  pub give-early : (sp : Tick) → sp .0 ≤ MOST-START → Early (endsAt sp (e .period) (firing s)) (addedOf (tokensOf (ratesOf e) (firing s)) (token 1))
+  pub give-early : (sp : Tick) → sp .0 ≤ MOST-START .0 → Early (endsAt sp (e .period) (firing s)) (plusTokens (tokensOf (ratesOf e) (firing s)) (token 1))
   give-early sp b = record { at = omega (arith, b, ends-by e s h l); tokens = omega (arith, tokens-by e (h .proper) s (le-of-lt l)) }
 
   pub take-early : Early (beginsAt (tick 0) (e .period) (firing s)) (tokensOf (ratesOf e) (firing (s + 1)))
   take-early = record { at = omega (arith, ends-by e s h l); tokens = omega (arith, tokens-by e (h .proper) (s + 1) (omega arith)) }
 
 -- the marks of the producer's phases are near
-pub gives-ready : (p : End) (sp : Tick) (w : Pace) (l : List Mark) → Brief p → sp .0 ≤ MOST-START → Short w → FilledBy PHASES (giveAt 0 w p sp) noMark l (p .phases)
+pub gives-ready : (p : End) (sp : Tick) (w : Pace) (l : List Mark) → Brief p → sp .0 ≤ MOST-START .0 → Short w → FilledBy PHASES (giveAt 0 w p sp) noMark l (p .phases)
     → Filled PHASES (λ s. Near) noMark noMark l (p .phases)
 gives-ready p sp w l h b q =
     given-ready noMark Near (giveAt 0 w p sp) (p .phases) l (λ s r. give-near w _ _ q (give-early p s h r sp b))
@@ -154,7 +139,7 @@ pub pace-short : (p c : End) → Paced p c → Short (paceOf p c 1)
 pace-short p c w =
     record {
       some = common-pos p c w;
-      step = le-trans (div-le-self (cycleTicks p .0) (cycleTokens p .0 / commonOf p c .0)) (cycle-p p c w);
+      step = le-trans (div-le-self (cycleTicks p .0) (cycleTokens p .0 / stepOf p c .tokens .0)) (cycle-p p c w);
       tokens = omega (arith, cycle-most p (w .producer));
       ticks = omega (arith, cycle-p p c w);
     }
@@ -165,48 +150,48 @@ pub start-from : (p : End) (sp : Tick) (c : End) (w : Pace) (l : List Mark) → 
 unfolding startOf
 start-from p sp c w l e g =
     (λ i. tick (most-same _ _ (c .phases) (λ f hf. ap (λ (v : ℕ). cond (eqb (rateOf (ratesOf c) f) 0) 0 v)
-    (most-same _ _ (p .phases) (λ s hs. ap (λ (m : Mark). waitOf (w .step) m (takeAt w c f) .0) (g .each s hs)))) i))
+    (most-same _ _ (p .phases) (λ s hs. ap (λ (m : Mark). waitOf (w .step .ticks) m (takeAt w c f) .0) (g .each s hs)))) i))
     ∙ ap (λ (w : Pace). latestOf (giveAt 0 w p sp) (p .phases) w c) e
 
 -- what a size is reckoned with: a pace with some cycles of the producer
 pub record Long (w : Pace) : Type 0 where
-  pub some : 0 < w .step .0
-  pub common : w .common .0 ≤ MOST-TOKENS
-  pub tokens : w .tokens .0 ≤ MOST-CYCLES * MOST-TOKENS
-  pub ticks : w .ticks .0 ≤ MOST-START + 2 * ITERATION-LIMIT
+  pub some : 0 < w .step .ticks .0
+  pub common : w .step .tokens .0 ≤ MOST-TOKENS .0
+  pub tokens : w .tokens .0 ≤ MOST-ADDED * MOST-TOKENS .0
+  pub ticks : w .ticks .0 ≤ MOST-START .0 + 2 * ITERATION-LIMIT .0
 
 pub record Few (h : Hold) : Type 0 where
-  pub more : h .more .0 ≤ FAR
-  pub fewer : h .fewer .0 ≤ FAR
+  pub more : h .more .0 ≤ MANY .0
+  pub fewer : h .fewer .0 ≤ MANY .0
 
 module _ (w : Pace) (t : Tick) (n : Token) (h : Long w) (e : Early t n) where
   pub claiming-few : Few (claimingOf w t n)
   claiming-few =
       record {
         more = omega (arith, e .tokens);
-        fewer = omega (arith, mul-le-mul (le-trans (div-le-self (t .0) (w .step .0)) (e .at)) (h .common));
+        fewer = omega (arith, mul-le-mul (le-trans (div-le-self (t .0) (w .step .ticks .0)) (e .at)) (h .common));
       }
 
   pub back-few : Few (backOf w t n)
   back-few =
-      let less : (t .0 + w .ticks .0) / w .step .0 ≤ MOST-START + ITERATION-LIMIT + 1 + (MOST-START + 2 * ITERATION-LIMIT) =
-      le-trans (div-le-self (t .0 + w .ticks .0) (w .step .0)) (omega (arith, e .at, h .ticks)) in
+      let less : (t .0 + w .ticks .0) / w .step .ticks .0 ≤ MOST-START .0 + ITERATION-LIMIT .0 + 1 + (MOST-START .0 + 2 * ITERATION-LIMIT .0) =
+      le-trans (div-le-self (t .0 + w .ticks .0) (w .step .ticks .0)) (omega (arith, e .at, h .ticks)) in
       record { more = omega (arith, mul-le-mul less (h .common)); fewer = omega (arith, e .tokens, h .tokens) }
 
-module _ (e : End) (s : ℕ) (h : Brief e) (l : s < e .phases) (start : Tick) (b : start .0 ≤ MOST-START) where
-  pub claiming-early : Early (plusOf (beginsAt start (e .period) (firing s)) (tick 1)) (tokensOf (ratesOf e) (firing (s + 1)))
+module _ (e : End) (s : ℕ) (h : Brief e) (l : s < e .phases) (start : Tick) (b : start .0 ≤ MOST-START .0) where
+  pub claiming-early : Early (plusTicks (beginsAt start (e .period) (firing s)) (tick 1)) (tokensOf (ratesOf e) (firing (s + 1)))
   claiming-early = record { at = omega (arith, b, ends-by e s h l); tokens = omega (arith, tokens-by e (h .proper) (s + 1) (omega arith)) }
 
   pub back-early : Early (endsAt start (e .period) (firing s)) (tokensOf (ratesOf e) (firing s))
   back-early = record { at = omega (arith, b, ends-by e s h l); tokens = omega (arith, tokens-by e (h .proper) s (le-of-lt l)) }
 
-pub claims-ready : (p : End) (sp : Tick) (w : Pace) (l : List Hold) → Brief p → sp .0 ≤ MOST-START → Long w → FilledBy PHASES (claimingAt w p sp) noHold l (p .phases)
+pub claims-ready : (p : End) (sp : Tick) (w : Pace) (l : List Hold) → Brief p → sp .0 ≤ MOST-START .0 → Long w → FilledBy PHASES (claimingAt w p sp) noHold l (p .phases)
     → Filled PHASES (λ s. Few) noHold noHold l (p .phases)
 claims-ready p sp w l h b q =
     given-ready noHold Few (claimingAt w p sp) (p .phases) l (λ s r. claiming-few w _ _ q (claiming-early p s h r sp b))
 
-module _ (p : End) (sp : Tick) (c : End) (w : Paced p c) (b : sp .0 ≤ MOST-START) where
-  pub cycles-most : cyclesOf p sp ≤ MOST-CYCLES
+module _ (p : End) (sp : Tick) (c : End) (w : Paced p c) (b : sp .0 ≤ MOST-START .0) where
+  pub cycles-most : cyclesOf p sp ≤ MOST-ADDED
   cycles-most = omega (arith, b, div-le-self (sp .0) (cycleTicks p .0))
 
   pub pace-long : Long (paceOf p c (cyclesOf p sp))
@@ -228,31 +213,28 @@ pub size-from : (p : End) (sp : Tick) (c : End) (sc : Tick) (w : Pace) (l : List
 unfolding sizeOf
 size-from p sp c sc w l e g =
     (λ i. token (most-same _ _ (c .phases) (λ f hf. most-same _ _ (p .phases) (λ s hs.
-    ap (λ (h : Hold). claimOf (w .common) h (backAt w c sc f) .0) (g .each s hs ∙ sym (present-none (claimingAt w p sp s))))) i))
+    ap (λ (h : Hold). claimOf (w .step .tokens) h (backAt w c sc f) .0) (g .each s hs ∙ sym (present-none (claimingAt w p sp s))))) i))
     ∙ ap (λ (w : Pace). greatestOf (λ s. present 0 (claimingAt w p sp s)) (p .phases) w c sc) e
     ∙ (λ i. token (sym (zero-max (greatestOf (λ s. present 0 (claimingAt (paceOf p c (cyclesOf p sp)) p sp s)) (p .phases) (paceOf p c (cyclesOf p sp)) c sc .0)) i))
 
--- sizes are at most these
-abbrev pub MOST-SIZE : ℕ
-MOST-SIZE = 2 * FAR
-
-module _ (p : End) (sp : Tick) (c : End) (sc : Tick) (w : Paced p c) (b : sp .0 ≤ MOST-START) (b′ : sc .0 ≤ MOST-START) where
-  size-few : sizeOf 0 p sp c sc .0 ≤ MOST-SIZE
+-- sizes are no greater
+module _ (p : End) (sp : Tick) (c : End) (sc : Tick) (w : Paced p c) (b : sp .0 ≤ MOST-START .0) (b′ : sc .0 ≤ MOST-START .0) where
+  size-few : sizeOf 0 p sp c sc .0 ≤ MOST-SIZE .0
   unfolding sizeOf
   size-few = max-le zero-le (most-within _ _ (c .phases) (λ f hf. most-within _ _ (p .phases) (λ s hs. le-trans (sub-le _ _) (few f s hf hs))))
     where
       pace : Pace
       pace = paceOf p c (cyclesOf p sp)
 
-      few : (f s : ℕ) → f < c .phases → s < p .phases → claimingAt pace p sp s .more .0 + 0 + backAt pace c sc f .more .0 ≤ MOST-SIZE
+      few : (f s : ℕ) → f < c .phases → s < p .phases → claimingAt pace p sp s .more .0 + 0 + backAt pace c sc f .more .0 ≤ MOST-SIZE .0
       few f s hf hs =
           omega (
             arith,
-            claiming-few pace _ _ (pace-long p sp c w b) (claiming-early p s (brief-p p c w) hs sp b) .more,
+            claiming-early p s (brief-p p c w) hs sp b .tokens,
             back-few pace _ _ (pace-long p sp c w b) (back-early c f (brief-c p c w) hf sc b′) .more,
           )
 
-  pub size-within : (r : Token) → IsSize p sp c sc r → r .0 ≤ MOST-SIZE
+  pub size-within : (r : Token) → IsSize p sp c sc r → r .0 ≤ MOST-SIZE .0
   size-within r is =
       let (t, z) = is .holds in
       le-trans (size-most p c w 0 sp sc (t .0) (r .0) (claimed-with p sp c sc t r .0 z)) size-few

@@ -1,17 +1,18 @@
 -- The rules of one channel: no firing takes a token not yet there, and the size is the greatest number of places claimed at any time, for ever.
 use mathlib.Core.Path.{_≡_}
 use mathlib.Core.List.{List}
-use Prim.Native.Nat.{ℕ, _+_, _^_, _≤_, _<_}
+use Prim.Native.Nat.{ℕ, _+_, _≤_, _<_}
 use lib.ListN.{length, getD, take}
 use Rattle.numbers.specs.Extreme.{Greatest}
 use Rattle.units.specs.declared.Tick.{Tick}
 use Rattle.units.specs.declared.Firing.{Firing}
 use Rattle.units.specs.declared.Token.{Token}
-use Rattle.units.specs.Ticks.{timesOf}
-use Rattle.units.specs.Tokens.{token}
-use Rattle.terms.specs.Limits.{PHASES, MOST-RATE, ITERATION-LIMIT}
-use Rattle.terms.specs.Period.{firing, next, beginsAt, HaveBegun, HaveEnded}
-use Rattle.terms.specs.Rate.{rateOf, tokensOf, times}
+use Rattle.units.specs.Ticks.{timesTicks}
+use Rattle.units.specs.Tokens.{token, timesTokens}
+use Rattle.units.specs.Limits.{PHASES, MOST-RATE, ITERATION-LIMIT}
+use Rattle.units.specs.Firings.{firing}
+use Rattle.terms.specs.Period.{next, beginsAt, HaveBegun, HaveEnded}
+use Rattle.terms.specs.Rate.{rateOf, tokensOf}
 use Rattle.channel.specs.declared.End.{End}
 
 -- the rates of an end, one for each phase
@@ -23,7 +24,7 @@ abbrev pub cycleTokens : End → Token
 cycleTokens e = tokensOf (ratesOf e) (firing (e .phases))
 
 abbrev pub cycleTicks : End → Tick
-cycleTicks e = timesOf (e .period) (e .phases)
+cycleTicks e = timesTicks (e .phases) (e .period)
 
 -- No firing of the consumer c, which starts at sc, ever takes a token not yet there: what its firings up to firing n take is at most what the firings of
 -- the producer p, which starts at sp, have made that have ended by the tick at which firing n begins. A firing that takes nothing waits for nothing.
@@ -48,7 +49,7 @@ pub record Proper (e : End) : Type 0 where
   pub some : 0 < e .phases
   pub phases : e .phases ≤ PHASES
   pub long : length (e .rates) ≡ PHASES
-  pub rates : (k : ℕ) → k < PHASES → getD (e .rates) k 0 ≤ MOST-RATE
+  pub rates : (k : ℕ) → k < PHASES → getD (e .rates) k 0 ≤ MOST-RATE .0
   pub moves : 0 < cycleTokens e .0
 
 -- two such ends that are balanced: in one iteration so many cycles of the producer make what so many of the consumer take, in the same ticks
@@ -58,12 +59,8 @@ pub record Paced (p c : End) : Type 0 where
   pub makers : ℕ
   pub takers : ℕ
   pub iteration : Tick
-  pub even : times makers (cycleTokens p) ≡ times takers (cycleTokens c)
-  pub made-in : iteration ≡ timesOf (cycleTicks p) makers
-  pub taken-in : iteration ≡ timesOf (cycleTicks c) takers
+  pub even : timesTokens makers (cycleTokens p) ≡ timesTokens takers (cycleTokens c)
+  pub made-in : iteration ≡ timesTicks makers (cycleTicks p)
+  pub taken-in : iteration ≡ timesTicks takers (cycleTicks c)
   pub some-ticks : 0 < iteration .0
-  pub within : iteration .0 ≤ ITERATION-LIMIT
-
--- the latest start that is reckoned with
-abbrev pub MOST-START : ℕ
-MOST-START = 2 ^ 32
+  pub within : iteration .0 ≤ ITERATION-LIMIT .0

@@ -17,14 +17,15 @@ use Rattle.units.specs.declared.Tick.{Tick}
 use Rattle.units.specs.declared.Token.{Token}
 use Rattle.units.specs.Ticks.{tick}
 use Rattle.units.specs.Tokens.{token}
-use Rattle.terms.specs.Limits.{MOST-RATE, ITERATION-LIMIT}
-use Rattle.terms.specs.Period.{firing, beginsAt}
+use Rattle.units.specs.Limits.{MOST-RATE, ITERATION-LIMIT}
+use Rattle.units.specs.Firings.{firing}
+use Rattle.terms.specs.Period.{beginsAt}
 use Rattle.terms.specs.Rate.{rateOf, rate-in, rate-cycle}
 use Rattle.channel.specs.declared.End.{End}
 use Rattle.channel.specs.Flow.{ratesOf, cycleTokens, cycleTicks, Fed, Claimed, IsSize, Proper, Paced}
 use Rattle.channel.specs.Cycles.{Matched, matched, factor-pos}
 use Rattle.channel.specs.Pairs.{at-most, FedBy, ClaimedBy, waitFor, claimFor, beyond-quotient, ended-some, wait-needed, wait-enough, claim-met, claim-most, claim-some}
-use Rattle.channel.specs.Phases.{commonOf, paceOf, giveAt, takeAt, waitOf, startOf, claimingAt, backAt, claimOf, cyclesOf, sizeOf, present}
+use Rattle.channel.specs.Phases.{stepOf, paceOf, giveAt, takeAt, waitOf, startOf, claimingAt, backAt, claimOf, cyclesOf, sizeOf, present}
 
 -- the rates of an end, one for each phase, go round
 module _ (e : End) (h : Proper e) where
@@ -38,9 +39,9 @@ module _ (e : End) (h : Proper e) where
   rate-at k l = rate-in (ratesOf e) k (rw rates-long l) ∙ getD-take (e .phases) (e .rates) k 0 l
 
   -- so many phases move at most so many tokens
-  pub tokens-most : (k : ℕ) → k ≤ e .phases → sum (rateOf (ratesOf e)) k ≤ k * MOST-RATE
+  pub tokens-most : (k : ℕ) → k ≤ e .phases → sum (rateOf (ratesOf e)) k ≤ k * MOST-RATE .0
   tokens-most k l =
-      sum-most (rateOf (ratesOf e)) MOST-RATE k
+      sum-most (rateOf (ratesOf e)) (MOST-RATE .0) k
       (λ i b. le-trans (le-of-eq (rate-at i (omega arith))) (h .rates i (omega (arith, h .phases))))
 
 -- a phase that takes nothing asks nothing
@@ -100,16 +101,16 @@ module _ (p c : End) (w : Paced p c) where
       factor-pos (cycleTicks c .0) (c .period .0) (c .phases)
       (factor-pos (w .iteration .0) (cycleTicks c .0) (w .takers) (w .some-ticks) (omega (arith, taken-ticks))) (omega arith)
 
-  pub cycle-p : cycleTicks p .0 ≤ ITERATION-LIMIT
+  pub cycle-p : cycleTicks p .0 ≤ ITERATION-LIMIT .0
   cycle-p = omega (arith, w .within, made-ticks, mul-le-mul-right (cycleTicks p .0) makers-pos)
 
-  pub cycle-c : cycleTicks c .0 ≤ ITERATION-LIMIT
+  pub cycle-c : cycleTicks c .0 ≤ ITERATION-LIMIT .0
   cycle-c = omega (arith, w .within, taken-ticks, mul-le-mul-right (cycleTicks c .0) takers-pos)
 
   -- what the cycles have in common lasts as long at both ends
-  pub in-step : (k : ℕ) → Matched (cycleTokens p .0) (cycleTokens c .0) (cycleTicks p .0) (cycleTicks c .0) (paceOf p c k .common .0) (paceOf p c k .step .0)
+  pub in-step : (k : ℕ) → Matched (cycleTokens p .0) (cycleTokens c .0) (cycleTicks p .0) (cycleTicks c .0) (paceOf p c k .step .tokens .0) (paceOf p c k .step .ticks .0)
   in-step k =
-      matched (cycleTokens p .0) (cycleTokens c .0) (cycleTicks p .0) (cycleTicks c .0) (w .makers) (w .takers) (commonOf p c .0)
+      matched (cycleTokens p .0) (cycleTokens c .0) (cycleTicks p .0) (cycleTicks c .0) (w .makers) (w .takers) (stepOf p c .tokens .0)
       (w .producer .moves) (w .consumer .moves) cycle-pos makers-pos (ap (λ (t : Token). t .0) (w .even)) (made-ticks ∙ sym taken-ticks)
       (gcd-of (cycleTokens p .0) (cycleTokens c .0))
 
@@ -121,16 +122,16 @@ module _ (p c : End) (w : Paced p c) where
 
   module _ (x : ℕ) (sp : Tick) where
     abbrev wait : ℕ → ℕ → ℕ
-    wait = waitFor rp rc (p .phases) (p .period .0) (c .period .0) x (x + 1) (sp .0) (paceOf p c (x + 1) .common .0) (paceOf p c (x + 1) .step .0)
+    wait = waitFor rp rc (p .phases) (p .period .0) (c .period .0) x (x + 1) (sp .0) (paceOf p c (x + 1) .step .tokens .0) (paceOf p c (x + 1) .step .ticks .0)
 
     cycles-more : x + cycleTokens p .0 ≤ (x + 1) * cycleTokens p .0
     cycles-more = omega (arith, le-mul-of-pos-right x (w .producer .moves))
 
     -- the wait of one phase for another, as it is reckoned
     wait-is : (f s : ℕ) → s < p .phases → 0 < rc f
-        → waitOf (paceOf p c (x + 1) .step) (giveAt x (paceOf p c (x + 1)) p sp s) (takeAt (paceOf p c (x + 1)) c f) .0 ≡ wait f s
+        → waitOf (paceOf p c (x + 1) .step .ticks) (giveAt x (paceOf p c (x + 1)) p sp s) (takeAt (paceOf p c (x + 1)) c f) .0 ≡ wait f s
     wait-is f s hs pos =
-        beyond-quotient (sum rc (f + 1) + (x + 1) * cycleTokens p .0) (sum rp s + (x + 1)) (commonOf p c .0) (paceOf p c (x + 1) .step .0)
+        beyond-quotient (sum rc (f + 1) + (x + 1) * cycleTokens p .0) (sum rp s + (x + 1)) (stepOf p c .tokens .0) (paceOf p c (x + 1) .step .ticks .0)
         (sp .0 + (s + 1) * p .period .0) (0 + f * c .period .0 + (x + 1) * cycleTicks p .0) (in-step (x + 1) .some-g)
         (omega (arith, cycles-more, sum-more rp s (p .phases) (le-of-lt hs), sum-next rc f)) ∙ omega arith
 
@@ -157,12 +158,12 @@ module _ (p c : End) (w : Paced p c) where
         near : (f s : ℕ) → f < c .phases → s < p .phases → wait f s ≤ sp .0 + cycleTicks p .0 + cycleTicks c .0
         near f s hf hs =
             let m = in-step (x + 1) in
-            let few : (sum rc (f + 1) + (x + 1) * cycleTokens p .0 - (sum rp s + (x + 1))) / commonOf p c .0 ≤ m .B + (x + 1) * m .A =
-            div-le-of-le-mul (commonOf p c .0)
+            let few : (sum rc (f + 1) + (x + 1) * cycleTokens p .0 - (sum rp s + (x + 1))) / stepOf p c .tokens .0 ≤ m .B + (x + 1) * m .A =
+            div-le-of-le-mul (stepOf p c .tokens .0)
             (omega (arith, sum-more rc (f + 1) (c .phases) (omega arith), m .tokens-c, ap (λ (z : ℕ). (x + 1) * z) (m .tokens-p))) in
             omega (
               arith,
-              mul-le-mul-right (paceOf p c (x + 1) .step .0) few,
+              mul-le-mul-right (paceOf p c (x + 1) .step .ticks .0) few,
               m .ticks-c,
               ap (λ (z : ℕ). (x + 1) * z) (m .ticks-p),
               mul-le-mul-right (p .period .0) hs,
@@ -173,16 +174,16 @@ module _ (p c : End) (w : Paced p c) where
     K = cyclesOf p sp
 
     abbrev claim : ℕ → ℕ → ℕ
-    claim = claimFor rp rc (p .phases) (p .period .0) (c .period .0) x K (sp .0) (paceOf p c K .common .0) (paceOf p c K .step .0) (sc .0)
+    claim = claimFor rp rc (p .phases) (p .period .0) (c .period .0) x K (sp .0) (paceOf p c K .step .tokens .0) (paceOf p c K .step .ticks .0) (sc .0)
 
     ticks-more : sp .0 + cycleTicks p .0 ≤ K * cycleTicks p .0
     ticks-more = omega (arith, lt-div-mul-add {a = sp .0} cycle-pos)
 
     -- the places that a phase claims beside another, as they are reckoned
     claim-is : (f s : ℕ) → s < p .phases
-        → claimOf (commonOf p c) (present x (claimingAt (paceOf p c K) p sp s)) (backAt (paceOf p c K) c sc f) .0 ≡ claim f s
+        → claimOf (stepOf p c .tokens) (present x (claimingAt (paceOf p c K) p sp s)) (backAt (paceOf p c K) c sc f) .0 ≡ claim f s
     claim-is f s hs =
-        beyond-quotient (sc .0 + (f + 1) * c .period .0 + K * cycleTicks p .0) (sp .0 + s * p .period .0 + 1) (paceOf p c K .step .0) (commonOf p c .0)
+        beyond-quotient (sc .0 + (f + 1) * c .period .0 + K * cycleTicks p .0) (sp .0 + s * p .period .0 + 1) (paceOf p c K .step .ticks .0) (stepOf p c .tokens .0)
         (sum rp (s + 1) + x) (sum rc f + K * cycleTokens p .0) (in-step K .some-G)
         (omega (arith, ticks-more, period-p, mul-le-mul-right (p .period .0) hs))
 
@@ -201,7 +202,7 @@ module _ (p c : End) (w : Paced p c) where
     size-met = go (decLe most x)
       where
         row : ℕ → ℕ → ℕ
-        row f s = claimOf (commonOf p c) (present x (claimingAt (paceOf p c K) p sp s)) (backAt (paceOf p c K) c sc f) .0
+        row f s = claimOf (stepOf p c .tokens) (present x (claimingAt (paceOf p c K) p sp s)) (backAt (paceOf p c K) c sc f) .0
 
         most : ℕ
         most = mostOf (λ f. mostOf (row f) (p .phases)) (c .phases)

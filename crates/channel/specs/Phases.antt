@@ -6,10 +6,13 @@ use Rattle.numbers.specs.Extreme.{mostOf}
 use Rattle.numbers.specs.Reckoned.{gcdOf}
 use Rattle.units.specs.declared.Tick.{Tick}
 use Rattle.units.specs.declared.Token.{Token}
-use Rattle.units.specs.Ticks.{tick, plusOf, timesOf, overOf, restOf}
-use Rattle.units.specs.Tokens.{token, moreOf, addedOf, foldOf, leftOf}
-use Rattle.terms.specs.Period.{firing, beginsAt, endsAt}
+use Rattle.units.specs.Ticks.{tick, plusTicks, timesTicks, restTicks}
+use Rattle.units.specs.Tokens.{token, greaterToken, plusTokens, timesTokens, restTokens}
+use Rattle.units.specs.Firings.{firing}
+use Rattle.terms.specs.Period.{beginsAt, endsAt}
 use Rattle.terms.specs.Rate.{rateOf, tokensOf}
+use Rattle.terms.specs.Pace.{lastingOf, movingOf}
+use Rattle.terms.specs.declared.pace.Step.{Step}
 use Rattle.channel.specs.declared.End.{End}
 use Rattle.channel.specs.declared.pace.Pace.{Pace}
 use Rattle.channel.specs.declared.waits.Mark.{Mark}
@@ -17,18 +20,16 @@ use Rattle.channel.specs.declared.claims.Hold.{Hold}
 use Rattle.channel.specs.Flow.{ratesOf, cycleTokens, cycleTicks}
 use Rattle.channel.specs.Pairs.{beyond}
 
--- what two cycles have in common in tokens, how long that lasts, and k cycles of the producer
-abbrev pub commonOf : End → End → Token
-commonOf p c = token (gcdOf (cycleTokens p .0) (cycleTokens c .0))
+-- the step of two ends, and their pace with k cycles of the producer
+abbrev pub stepOf : End → End → Step
+stepOf p c =
+    record {
+      tokens = token (gcdOf (cycleTokens p .0) (cycleTokens c .0));
+      ticks = tick (cycleTicks p .0 / (cycleTokens p .0 / gcdOf (cycleTokens p .0) (cycleTokens c .0)));
+    }
 
 abbrev pub paceOf : End → End → ℕ → Pace
-paceOf p c k =
-    record {
-      common = commonOf p c;
-      step = overOf (cycleTicks p) (cycleTokens p .0 / commonOf p c .0);
-      tokens = foldOf (cycleTokens p) k;
-      ticks = timesOf (cycleTicks p) k;
-    }
+paceOf p c k = record { step = stepOf p c; tokens = timesTokens k (cycleTokens p); ticks = timesTicks k (cycleTicks p) }
 
 -- what stands past the end of an array
 abbrev pub noMark : Mark
@@ -40,14 +41,14 @@ noHold = record { more = token 0; fewer = token 0; rest = tick 0 }
 -- The start. A phase of the producer that ends at a tick, before which there are too few tokens by so many; one of the consumer that begins at a tick,
 -- until whose end so many tokens are taken.
 abbrev pub giveOf : Pace → Tick → Token → Mark
-giveOf w ends short = record { later = ends; sooner = timesOf (w .step) (short .0 / w .common .0); rest = leftOf short (w .common) }
+giveOf w ends short = record { later = ends; sooner = lastingOf (w .step) short; rest = restTokens short (w .step .tokens) }
 
 abbrev pub takeOf : Pace → Tick → Token → Mark
 takeOf w begins taken =
     record {
-      later = timesOf (w .step) ((taken .0 + w .tokens .0) / w .common .0);
-      sooner = plusOf begins (w .ticks);
-      rest = leftOf (addedOf taken (w .tokens)) (w .common);
+      later = lastingOf (w .step) (plusTokens taken (w .tokens));
+      sooner = plusTicks begins (w .ticks);
+      rest = restTokens (plusTokens taken (w .tokens)) (w .step .tokens);
     }
 
 -- the wait of the one for the other
@@ -56,7 +57,7 @@ waitOf step g t = tick (beyond (g .rest .0) (t .rest .0) (g .later .0 + t .later
 
 -- phase s of the producer, and phase f of the consumer
 abbrev pub giveAt : ℕ → Pace → End → Tick → ℕ → Mark
-giveAt x w p sp s = giveOf w (endsAt sp (p .period) (firing s)) (addedOf (tokensOf (ratesOf p) (firing s)) (token (x + 1)))
+giveAt x w p sp s = giveOf w (endsAt sp (p .period) (firing s)) (plusTokens (tokensOf (ratesOf p) (firing s)) (token (x + 1)))
 
 abbrev pub takeAt : Pace → End → ℕ → Mark
 takeAt w c f = takeOf w (beginsAt (tick 0) (c .period) (firing f)) (tokensOf (ratesOf c) (firing (f + 1)))
@@ -67,7 +68,7 @@ longestOf gives n step take = tick (mostOf (λ s. waitOf step (gives s) take .0)
 
 -- a phase that takes nothing waits for nothing
 abbrev pub askedBy : (ℕ → Mark) → ℕ → Pace → Tick → ℕ → Token → Tick
-askedBy gives n w begins rate taken = tick (cond (eqb rate 0) 0 (longestOf gives n (w .step) (takeOf w begins taken) .0))
+askedBy gives n w begins rate taken = tick (cond (eqb rate 0) 0 (longestOf gives n (w .step .ticks) (takeOf w begins taken) .0))
 
 abbrev pub askedOf : (ℕ → Mark) → ℕ → Pace → End → ℕ → Tick
 askedOf gives n w c f = askedBy gives n w (beginsAt (tick 0) (c .period) (firing f)) (rateOf (ratesOf c) f) (tokensOf (ratesOf c) (firing (f + 1)))
@@ -82,14 +83,14 @@ startOf x p sp c = latestOf (giveAt x (paceOf p c (x + 1)) p sp) (p .phases) (pa
 -- The size. A phase of the producer that has begun by a tick, with which so many tokens are made; one of the consumer that ends at a tick, before which
 -- so many tokens are taken.
 abbrev pub claimingOf : Pace → Tick → Token → Hold
-claimingOf w by made = record { more = made; fewer = foldOf (w .common) (by .0 / w .step .0); rest = restOf by (w .step) }
+claimingOf w by made = record { more = made; fewer = movingOf (w .step) by; rest = restTicks by (w .step .ticks) }
 
 abbrev pub backOf : Pace → Tick → Token → Hold
 backOf w ends taken =
     record {
-      more = foldOf (w .common) ((ends .0 + w .ticks .0) / w .step .0);
-      fewer = addedOf taken (w .tokens);
-      rest = restOf (plusOf ends (w .ticks)) (w .step);
+      more = movingOf (w .step) (plusTicks ends (w .ticks));
+      fewer = plusTokens taken (w .tokens);
+      rest = restTicks (plusTicks ends (w .ticks)) (w .step .ticks);
     }
 
 -- the places that are claimed while the one has begun and the other has not ended
@@ -98,7 +99,7 @@ claimOf common g t = token (beyond (g .rest .0) (t .rest .0) (g .more .0 + t .mo
 
 -- phase s of the producer, and phase f of the consumer
 abbrev pub claimingAt : Pace → End → Tick → ℕ → Hold
-claimingAt w p sp s = claimingOf w (plusOf (beginsAt sp (p .period) (firing s)) (tick 1)) (tokensOf (ratesOf p) (firing (s + 1)))
+claimingAt w p sp s = claimingOf w (plusTicks (beginsAt sp (p .period) (firing s)) (tick 1)) (tokensOf (ratesOf p) (firing (s + 1)))
 
 abbrev pub backAt : Pace → End → Tick → ℕ → Hold
 backAt w c sc f = backOf w (endsAt sc (c .period) (firing f)) (tokensOf (ratesOf c) (firing f))
@@ -109,16 +110,16 @@ heldOf claiming n common back = token (mostOf (λ s. claimOf common (claiming s)
 
 -- the most of all
 abbrev pub greatestOf : (ℕ → Hold) → ℕ → Pace → End → Tick → Token
-greatestOf claiming n w c sc = token (mostOf (λ f. heldOf claiming n (w .common) (backAt w c sc f) .0) (c .phases))
+greatestOf claiming n w c sc = token (mostOf (λ f. heldOf claiming n (w .step .tokens) (backAt w c sc f) .0) (c .phases))
 
 -- so many cycles of the producer are more ticks than its start
 abbrev pub cyclesOf : End → Tick → ℕ
 cyclesOf p sp = sp .0 / cycleTicks p .0 + 2
 
 abbrev pub present : ℕ → Hold → Hold
-present x h = record { more = addedOf (h .more) (token x); fewer = h .fewer; rest = h .rest }
+present x h = record { more = plusTokens (h .more) (token x); fewer = h .fewer; rest = h .rest }
 
 unfoldable pub sizeOf : ℕ → End → Tick → End → Tick → Token
 sizeOf x p sp c sc =
-    moreOf (token x)
+    greaterToken (token x)
     (greatestOf (λ s. present x (claimingAt (paceOf p c (cyclesOf p sp)) p sp s)) (p .phases) (paceOf p c (cyclesOf p sp)) c sc)

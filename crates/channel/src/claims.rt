@@ -1,21 +1,20 @@
 // The places that a producer's phases claim while those of the consumer have not given theirs back.
 use crate::End;
 use crate::pace::Pace;
-use crate::pace::moved;
-use terms::limits::PHASES;
 use terms::period::begins;
 use terms::period::ends;
-use units::Firing;
+use terms::rate;
 use units::Tick;
 use units::Token;
+use units::limits::PHASES;
 ghost use mathlib.Core.Path.{_≡_};
 ghost use Prim.Native.Nat.{_≤_};
 ghost use lib.ListN.{getD};
 ghost use Rattle.numbers.specs.Filled.{Filled, FilledBy};
-ghost use Rattle.terms.specs.Limits.{PHASES};
-ghost use Rattle.channel.specs.Flow.{MOST-START};
+ghost use Rattle.units.specs.Bounds.{MOST-TOKENS, MOST-START};
+ghost use Rattle.units.specs.Limits.{PHASES};
 ghost use Rattle.channel.specs.Phases.{noHold, claimingOf, claimingAt, backOf, claimOf, heldOf, greatestOf};
-ghost use Rattle.channel.specs.Bounds.{MOST-TOKENS, Brief, Few, Long, Early};
+ghost use Rattle.channel.specs.Bounds.{Brief, Few, Long, Early};
 
 // A phase of either end: by how many tokens it makes a claim more and fewer, and the ticks that are left over whole steps.
 pub(crate) struct Hold {
@@ -30,32 +29,31 @@ fn claiming(pace: Pace, by: Tick, made: Token) -> Hold
     ensures { λ r. ⌜ r ≡ claimingOf pace by made ⌝ }
 {
     let step = pace.step;
-    let common = pace.common;
     Hold {
         more: made,
-        fewer: common.fold(by.per(step)),
-        rest: by.rest(step),
+        fewer: step.moving(by),
+        rest: by.rest(step.ticks),
     }
 }
 
 // The phases of the producer.
 pub(crate) fn claims(producer: End, start: Tick, pace: Pace) -> [Hold; PHASES]
-    requires { ⌜ Brief producer × (start .0 ≤ MOST-START) × Long pace ⌝ }
+    requires { ⌜ Brief producer × (start .0 ≤ MOST-START .0) × Long pace ⌝ }
     ensures { λ r. ⌜ FilledBy PHASES (claimingAt pace producer start) noHold r (producer .phases) ⌝ }
 {
     let rates = producer.rates;
     let period = producer.period;
     let n = producer.phases;
     let none = Hold {
-        more: Token(0),
-        fewer: Token(0),
-        rest: Tick(0),
+        more: Token::NONE,
+        fewer: Token::NONE,
+        rest: Tick::NONE,
     };
     let mut holds = [none; PHASES];
-    let mut made = Token(0);
+    let mut made = Token::NONE;
     for s in 0..n {
-        made = made.added(moved(rates[s]));
-        let by = begins(start, period, Firing(s as u64)).plus(Tick(1));
+        made = made.plus(rate::moved(rates[s]));
+        let by = begins(start, period, rate::phases(s)).plus(Tick::ONE);
         holds[s] = claiming(pace, by, made);
     }
     holds
@@ -67,36 +65,35 @@ fn back(pace: Pace, ends: Tick, taken: Token) -> Hold
     ensures { λ r. ⌜ r ≡ backOf pace ends taken ⌝ }
 {
     let step = pace.step;
-    let common = pace.common;
     let by = ends.plus(pace.ticks);
     Hold {
-        more: common.fold(by.per(step)),
-        fewer: taken.added(pace.tokens),
-        rest: by.rest(step),
+        more: step.moving(by),
+        fewer: taken.plus(pace.tokens),
+        rest: by.rest(step.ticks),
     }
 }
 
 // The places that are claimed while the one has begun and the other has not ended.
 fn claim(claiming: Hold, back: Hold, common: Token) -> Token
-    requires { ⌜ Few claiming × Few back × (common .0 ≤ MOST-TOKENS) ⌝ }
+    requires { ⌜ Few claiming × Few back × (common .0 ≤ MOST-TOKENS .0) ⌝ }
     ensures { λ r. ⌜ r ≡ claimOf common claiming back ⌝ }
 {
-    let more = claiming.more.added(back.more);
-    let fewer = claiming.fewer.added(back.fewer);
-    if claiming.rest.by(back.rest) {
-        return more.less(fewer);
+    let more = claiming.more.plus(back.more);
+    let fewer = claiming.fewer.plus(back.fewer);
+    if claiming.rest.at_most(back.rest) {
+        return more.minus(fewer);
     }
-    more.less(fewer.added(common))
+    more.minus(fewer.plus(common))
 }
 
 // The most places that are claimed while a phase of the consumer has not ended.
 fn held(claims: [Hold; PHASES], n: usize, back: Hold, common: Token) -> Token
-    requires { ⌜ Filled PHASES (λ s. Few) noHold noHold claims n × Few back × (common .0 ≤ MOST-TOKENS) ⌝ }
+    requires { ⌜ Filled PHASES (λ s. Few) noHold noHold claims n × Few back × (common .0 ≤ MOST-TOKENS .0) ⌝ }
     ensures { λ r. ⌜ r ≡ heldOf (λ s. getD claims s noHold) n common back ⌝ }
 {
-    let mut most = Token(0);
+    let mut most = Token::NONE;
     for s in 0..n {
-        most = most.more(claim(claims[s], back, common));
+        most = most.greater(claim(claims[s], back, common));
     }
     most
 }
@@ -109,19 +106,20 @@ pub(crate) fn greatest(
     start: Tick,
     pace: Pace,
 ) -> Token
-    requires { ⌜ Filled PHASES (λ s. Few) noHold noHold claims n × Brief consumer × (start .0 ≤ MOST-START) × Long pace ⌝ }
+    requires { ⌜ Filled PHASES (λ s. Few) noHold noHold claims n × Brief consumer × (start .0 ≤ MOST-START .0) × Long pace ⌝ }
     ensures { λ r. ⌜ r ≡ greatestOf (λ s. getD claims s noHold) n pace consumer start ⌝ }
 {
     let rates = consumer.rates;
     let period = consumer.period;
     let phases = consumer.phases;
-    let common = pace.common;
-    let mut most = Token(0);
-    let mut taken = Token(0);
+    let step = pace.step;
+    let common = step.tokens;
+    let mut most = Token::NONE;
+    let mut taken = Token::NONE;
     for f in 0..phases {
-        let at = ends(start, period, Firing(f as u64));
-        most = most.more(held(claims, n, back(pace, at, taken), common));
-        taken = taken.added(moved(rates[f]));
+        let at = ends(start, period, rate::phases(f));
+        most = most.greater(held(claims, n, back(pace, at, taken), common));
+        taken = taken.plus(rate::moved(rates[f]));
     }
     most
 }

@@ -5,13 +5,14 @@ mod waits;
 
 use pace::pace_of;
 use pace::ticks_of;
-use terms::limits::PHASES;
 use units::Tick;
 use units::Token;
+use units::limits::PHASES;
 ghost use Prim.Native.Nat.{_≤_};
 ghost use Rattle.numbers.specs.Extreme.{Least};
+ghost use Rattle.units.specs.Bounds.{MOST-START};
 ghost use Rattle.units.specs.Ticks.{tick};
-ghost use Rattle.channel.specs.Flow.{Fed, IsSize, Paced, MOST-START};
+ghost use Rattle.channel.specs.Flow.{Fed, IsSize, Paced};
 
 // One end of a channel: what each firing makes or takes, phase by phase, and the period of the firings.
 pub struct End {
@@ -22,7 +23,7 @@ pub struct End {
 
 // The least start of the consumer at which no firing ever takes a token not yet there.
 pub fn least_start(producer: End, start: Tick, consumer: End) -> Tick
-    requires { ⌜ Paced producer consumer × (start .0 ≤ MOST-START) ⌝ }
+    requires { ⌜ Paced producer consumer × (start .0 ≤ MOST-START .0) ⌝ }
     ensures { λ r. ⌜ Least (λ s. Fed producer start consumer (tick s)) (r .0) ⌝ }
 {
     let pace = pace_of(producer, consumer, 1);
@@ -32,7 +33,7 @@ pub fn least_start(producer: End, start: Tick, consumer: End) -> Tick
 
 // The size of the channel's buffer, where the consumer starts at `next`: the greatest number of places claimed at any time, for ever.
 pub fn size(producer: End, start: Tick, consumer: End, next: Tick) -> Token
-    requires { ⌜ Paced producer consumer × Fed producer start consumer next × (start .0 ≤ MOST-START) × (next .0 ≤ MOST-START) ⌝ }
+    requires { ⌜ Paced producer consumer × Fed producer start consumer next × (start .0 ≤ MOST-START .0) × (next .0 ≤ MOST-START .0) ⌝ }
     ensures { λ r. ⌜ IsSize producer start consumer next r ⌝ }
 {
     let cycles = start.per(ticks_of(producer)) + 2;

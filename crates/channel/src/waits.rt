@@ -1,19 +1,18 @@
 // The waits of a consumer's phases for those of the producer.
 use crate::End;
 use crate::pace::Pace;
-use crate::pace::moved;
-use terms::limits::PHASES;
 use terms::period::begins;
 use terms::period::ends;
-use units::Firing;
+use terms::rate;
 use units::Tick;
 use units::Token;
+use units::limits::PHASES;
 ghost use mathlib.Core.Path.{_≡_};
 ghost use Prim.Native.Nat.{_≤_};
 ghost use lib.ListN.{getD};
 ghost use Rattle.numbers.specs.Filled.{Filled, FilledBy};
-ghost use Rattle.terms.specs.Limits.{PHASES, ITERATION-LIMIT};
-ghost use Rattle.channel.specs.Flow.{MOST-START};
+ghost use Rattle.units.specs.Bounds.{MOST-START};
+ghost use Rattle.units.specs.Limits.{PHASES, ITERATION-LIMIT};
 ghost use Rattle.channel.specs.Phases.{noMark, giveOf, giveAt, takeOf, waitOf, longestOf, askedBy, latestOf};
 ghost use Rattle.channel.specs.Bounds.{Brief, Near, Short, Early};
 
@@ -30,36 +29,35 @@ fn give(pace: Pace, ends: Tick, short: Token) -> Mark
     ensures { λ r. ⌜ r ≡ giveOf pace ends short ⌝ }
 {
     let step = pace.step;
-    let common = pace.common;
     Mark {
         later: ends,
-        sooner: step.times(short.parts(common)),
-        rest: short.left(common),
+        sooner: step.lasting(short),
+        rest: short.rest(step.tokens),
     }
 }
 
 // The phases of the producer.
 pub(crate) fn gives(producer: End, start: Tick, pace: Pace) -> [Mark; PHASES]
-    requires { ⌜ Brief producer × (start .0 ≤ MOST-START) × Short pace ⌝ }
+    requires { ⌜ Brief producer × (start .0 ≤ MOST-START .0) × Short pace ⌝ }
     ensures { λ r. ⌜ FilledBy PHASES (giveAt 0 pace producer start) noMark r (producer .phases) ⌝ }
 {
     let rates = producer.rates;
     let period = producer.period;
     let n = producer.phases;
     let none = Mark {
-        later: Tick(0),
-        sooner: Tick(0),
-        rest: Token(0),
+        later: Tick::NONE,
+        sooner: Tick::NONE,
+        rest: Token::NONE,
     };
     let mut marks = [none; PHASES];
-    let mut made = Token(0);
+    let mut made = Token::NONE;
     for s in 0..n {
         marks[s] = give(
             pace,
-            ends(start, period, Firing(s as u64)),
-            made.added(Token(1)),
+            ends(start, period, rate::phases(s)),
+            made.plus(Token::ONE),
         );
-        made = made.added(moved(rates[s]));
+        made = made.plus(rate::moved(rates[s]));
     }
     marks
 }
@@ -70,23 +68,22 @@ fn take(pace: Pace, begins: Tick, taken: Token) -> Mark
     ensures { λ r. ⌜ r ≡ takeOf pace begins taken ⌝ }
 {
     let step = pace.step;
-    let common = pace.common;
-    let due = taken.added(pace.tokens);
+    let due = taken.plus(pace.tokens);
     Mark {
-        later: step.times(due.parts(common)),
+        later: step.lasting(due),
         sooner: begins.plus(pace.ticks),
-        rest: due.left(common),
+        rest: due.rest(step.tokens),
     }
 }
 
 // The wait of the one for the other.
 fn wait(give: Mark, take: Mark, step: Tick) -> Tick
-    requires { ⌜ Near give × Near take × (step .0 ≤ ITERATION-LIMIT) ⌝ }
+    requires { ⌜ Near give × Near take × (step .0 ≤ ITERATION-LIMIT .0) ⌝ }
     ensures { λ r. ⌜ r ≡ waitOf step give take ⌝ }
 {
     let later = give.later.plus(take.later);
     let sooner = give.sooner.plus(take.sooner);
-    if give.rest.within(take.rest) {
+    if give.rest.at_most(take.rest) {
         return later.minus(sooner);
     }
     later.minus(sooner.plus(step))
@@ -94,12 +91,12 @@ fn wait(give: Mark, take: Mark, step: Tick) -> Tick
 
 // The longest wait of a phase of the consumer.
 fn longest(gives: [Mark; PHASES], n: usize, take: Mark, step: Tick) -> Tick
-    requires { ⌜ Filled PHASES (λ s. Near) noMark noMark gives n × Near take × (step .0 ≤ ITERATION-LIMIT) ⌝ }
+    requires { ⌜ Filled PHASES (λ s. Near) noMark noMark gives n × Near take × (step .0 ≤ ITERATION-LIMIT .0) ⌝ }
     ensures { λ r. ⌜ r ≡ longestOf (λ s. getD gives s noMark) n step take ⌝ }
 {
-    let mut longest = Tick(0);
+    let mut longest = Tick::NONE;
     for s in 0..n {
-        longest = longest.later(wait(gives[s], take, step));
+        longest = longest.greater(wait(gives[s], take, step));
     }
     longest
 }
@@ -110,10 +107,10 @@ fn asked(gives: [Mark; PHASES], n: usize, pace: Pace, begins: Tick, rate: u8, ta
     ensures { λ r. ⌜ r ≡ askedBy (λ s. getD gives s noMark) n pace begins rate taken ⌝ }
 {
     if rate == 0 {
-        return Tick(0);
+        return Tick::NONE;
     }
     let step = pace.step;
-    longest(gives, n, take(pace, begins, taken), step)
+    longest(gives, n, take(pace, begins, taken), step.ticks)
 }
 
 // The latest start that a phase of the consumer asks.
@@ -124,12 +121,12 @@ pub(crate) fn latest(gives: [Mark; PHASES], n: usize, consumer: End, pace: Pace)
     let rates = consumer.rates;
     let period = consumer.period;
     let phases = consumer.phases;
-    let mut latest = Tick(0);
-    let mut taken = Token(0);
+    let mut latest = Tick::NONE;
+    let mut taken = Token::NONE;
     for f in 0..phases {
-        taken = taken.added(moved(rates[f]));
-        let at = begins(Tick(0), period, Firing(f as u64));
-        latest = latest.later(asked(gives, n, pace, at, rates[f], taken));
+        taken = taken.plus(rate::moved(rates[f]));
+        let at = begins(Tick::NONE, period, rate::phases(f));
+        latest = latest.greater(asked(gives, n, pace, at, rates[f], taken));
     }
     latest
 }

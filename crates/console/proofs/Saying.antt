@@ -5,7 +5,6 @@ use Prim.Native.Nat.{ℕ, _-_, _≤_}
 use native.Mathlib.Nat.{min-eq-left}
 use native.Mathlib.Omega.{arith}
 use lib.ListN.{length, replicate, length-append, length-take}
-use Rattle.io.specs.Counts.{Counts}
 use Rattle.terms.specs.declared.refusal.Refusal.{Refusal}
 use Rattle.printer.specs.Printed.{PRINTED, Shows, planText, refusalText}
 use Rattle.planner.specs.declared.Answer.{Answer}
@@ -15,6 +14,7 @@ use Rattle.planner.specs.declared.Printing.the-variants.{Printed, Refused as No
 use Rattle.planner.specs.Plans.{Stored, Prints, no-room, not-stored, printed}
 use Rattle.planner.proofs.Leaving.{leaves-table, leaves-whole}
 use Rattle.planner.proofs.Answering.{plans-unique}
+use Rattle.io.specs.Counts.{Counts}
 use Rattle.console.specs.Says.{PlanOf, Says, refused, planned}
 
 -- a text lies in the front of the buffer that shows it

@@ -10,32 +10,33 @@ use lib.ListN.{length, getD}
 use Rattle.units.specs.declared.Tick.{Tick}
 use Rattle.units.specs.declared.Firing.{Firing}
 use Rattle.units.specs.Ticks.{tick}
-use Rattle.terms.specs.Period.{firing, periodOf}
+use Rattle.units.specs.Firings.{firing}
+use Rattle.terms.specs.Period.{periodOf}
 use Rattle.terms.specs.declared.refusal.Refusal.{Refusal}
-use Rattle.graph.specs.declared.shape.Mode.{Mode}
-use Rattle.graph.specs.declared.shape.Table.{Table}
-use Rattle.graph.specs.Shape.{Active, emptyTable}
-use Rattle.graph.specs.Balance.{firingsOf}
 use Rattle.table.specs.declared.Answer.{Answer as ReadAnswer}
 use Rattle.table.specs.declared.Answer.the-variants.{Read, Refused as NotRead}
 use Rattle.table.specs.declared.Reading.{Reading}
 use Rattle.table.specs.Rows.{Row}
 use Rattle.table.specs.Told.{Outcome as Rows, rows, refused as rows-refused, After, Of, readingOf, Told}
+use Rattle.graph.specs.declared.shape.Mode.{Mode}
+use Rattle.graph.specs.declared.shape.Table.{Table}
+use Rattle.graph.specs.Shape.{emptyTable}
+use Rattle.graph.specs.Balance.{firingsOf}
+use Rattle.schedule.proofs.Sound.{at-actor}
 use Rattle.whole.specs.declared.Part.{Part}
 use Rattle.whole.specs.declared.Whole.{Whole}
 use Rattle.whole.specs.declared.Outcome.{Outcome}
 use Rattle.whole.specs.declared.Answer.{Answer as WholeAnswer}
 use Rattle.whole.specs.declared.Answer.the-variants.{Planned as IsPlanned, Refused as NotPlanned}
-use Rattle.whole.specs.Whole.{emptyWhole, ModeRefused, ModePlanned, Planned, Planning}
-use Rattle.schedule.proofs.Sound.{at-actor}
+use Rattle.whole.specs.Whole.{ModeRefused, ModePlanned, Planned, Planning}
 use Rattle.whole.proofs.Told.{judged-sound, scheduled-times}
-use Rattle.layout.specs.Words.{WORDS, wordsOf}
 use Rattle.run.specs.Plan.{Plan}
 use Rattle.run.specs.Machine as Run
 use Rattle.planned.specs.Plan.{isListed, planOf}
+use Rattle.layout.specs.Words.{WORDS, wordsOf}
 use Rattle.planner.specs.declared.Answer.{Answer as TableAnswer}
 use Rattle.planner.specs.declared.Answer.the-variants as Table′
-use Rattle.planner.specs.Plans.{Plans, Reads, Leaves}
+use Rattle.planner.specs.Plans.{Plans, Reads}
 use Rattle.planner.proofs.Answering.{plans-unique}
 use Rattle.machine.specs.declared.Machine.{Machine}
 use Rattle.machine.specs.declared.Beginning.{Beginning}
@@ -44,7 +45,7 @@ use Rattle.machine.specs.Answers.{seen, asking, machine, Meant, Begins, refusin
 use Rattle.machine.proofs.Unique.{begins-unique, answers-unique}
 use Rattle.machine.proofs.Steps.{listed-zero}
 use Rattle.machine.proofs.Demand as Machine′
-use Rattle.demands.specs.Demands.{OnTable, OnStart, OnRequest, Demand1, ModeRight, Right, TableRefused, Demand2, Runs, Demand3}
+use Rattle.demands.specs.Demands.{OnTable, OnStart, OnRequest, Demand1, ModeRight, Right, TableRefused, Demand2, Demand3}
 
 -- the numbers of the refusals of rows, and of modes
 abbrev OfRow : Rows → Type 0

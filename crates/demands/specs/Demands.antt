@@ -9,27 +9,28 @@ use lib.ListN.{length, getD}
 use Rattle.units.specs.declared.Tick.{Tick}
 use Rattle.units.specs.Ticks.{tick}
 use Rattle.units.specs.Tokens.{token}
-use Rattle.terms.specs.Limits.{ITERATION-LIMIT}
-use Rattle.terms.specs.Period.{firing, periodOf}
+use Rattle.units.specs.Limits.{ITERATION-LIMIT}
+use Rattle.units.specs.Firings.{firing}
+use Rattle.terms.specs.Period.{periodOf}
 use Rattle.terms.specs.declared.refusal.Refusal.{Refusal}
+use Rattle.table.specs.declared.Answer.the-variants.{Refused as NotRead}
+use Rattle.table.specs.Told.{Told}
 use Rattle.graph.specs.declared.shape.Mode.{Mode}
 use Rattle.graph.specs.declared.shape.Table.{Table}
 use Rattle.graph.specs.Shape.{Active, modeAt, emptyTable}
 use Rattle.graph.specs.Ends.{Ends}
 use Rattle.graph.specs.Balance.{Smallest, Iteration, firingsOf}
 use Rattle.graph.specs.Load.{Overloaded}
-use Rattle.table.specs.declared.Answer.the-variants.{Refused as NotRead}
-use Rattle.table.specs.Told.{Told}
 use Rattle.schedule.specs.Starts.{Starts, startupOf, Late}
 use Rattle.schedule.specs.Scheduled.{SizeOn, ofChannels, tokensOn}
 use Rattle.change.specs.Change.{Changes}
 use Rattle.whole.specs.declared.Part.{Part}
 use Rattle.whole.specs.declared.Whole.{Whole}
 use Rattle.whole.specs.Whole.{partAt, changeAt, runningOf, Listed, Leads, ModePlanned, ModeRefused, Planned}
-use Rattle.layout.specs.Words.{WORDS, wordsOf}
 use Rattle.run.specs.Machine as Run
 use Rattle.run.specs.Demand as Run′
 use Rattle.planned.specs.Plan.{isListed, planOf}
+use Rattle.layout.specs.Words.{WORDS, wordsOf}
 use Rattle.planner.specs.declared.Answer as planner
 use Rattle.planner.specs.declared.Answer.the-variants as Table′
 use Rattle.planner.specs.Plans.{Plans, Reads, Leaves, Stored, noPlan}
@@ -79,7 +80,7 @@ pub record ModeRight (m : Mode) (p : Part) : Type 0 where
   pub smallest : Smallest m counts
   pub firings : (i : ℕ) → Active m i → getD (p .firings) i (firing 0) ≡ firingsOf m counts i
   pub iteration : Iteration m counts (p .iteration)
-  pub within : p .iteration .0 ≤ ITERATION-LIMIT
+  pub within : p .iteration .0 ≤ ITERATION-LIMIT .0
   pub periods : (i : ℕ) → Active m i → getD (p .periods) i (tick 0) ≡ periodOf (p .iteration) (firingsOf m counts i)
   pub bearable : (q : ℕ) → Overloaded m counts (p .iteration) q → ⊥
   pub begin : ℕ → Tick

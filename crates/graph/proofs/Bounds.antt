@@ -14,7 +14,7 @@ use lib.ListN.{getD}
 use Rattle.numbers.specs.Bits.{bit, Has, hasb, size, adding, has-decides, has-adding, has-or, bit-zero, empty, size-one, one-size}
 use Rattle.numbers.specs.Decides.{Decides, decides-and, decides-not, decides-eqb, decides-true, decides-false}
 use Rattle.numbers.specs.Lowest.{lowest-is}
-use Rattle.terms.specs.Limits.{ACTORS}
+use Rattle.units.specs.Limits.{ACTORS}
 use Rattle.graph.specs.declared.shape.Mode.{Mode}
 use Rattle.graph.specs.Proper.{ProperMode}
 use Rattle.graph.specs.Ends.{First, Last, Only, Ends, NoEnds}

@@ -8,7 +8,7 @@ use native.Mathlib.Omega.{arith}
 use native.Mathlib.Decide.{ℕ-discrete}
 use lib.ListN.{length, getD, set, replicate, length-set, length-replicate}
 use lib.Seq.{getD-set-same, getD-set-other}
-use Rattle.terms.specs.Limits.{ACTORS}
+use Rattle.units.specs.Limits.{ACTORS}
 use Rattle.graph.specs.declared.shape.Mode.{Mode}
 use Rattle.graph.specs.Shape.{channelAt}
 use Rattle.graph.specs.Proper.{ProperMode}

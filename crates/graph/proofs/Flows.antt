@@ -18,9 +18,11 @@ use Rattle.numbers.specs.All.{Below, all-decides}
 use Rattle.numbers.specs.Sum.{sum-most, sum-one}
 use Rattle.numbers.specs.Tab.{tab, length-tab, tab-at, is-tab, filled-more, getD-replicated}
 use Rattle.units.specs.declared.Token.{Token}
-use Rattle.terms.specs.Limits.{ACTORS, PHASES, MOST-RATE, ITERATION-LIMIT}
+use Rattle.units.specs.Bounds.{MOST-CYCLES}
+use Rattle.units.specs.Limits.{ACTORS, PHASES, MOST-RATE}
+use Rattle.units.specs.Tokens.{timesTokens}
 use Rattle.terms.specs.declared.rate.Meeting.{Meeting}
-use Rattle.terms.specs.Rate.{rateOf, rate-in, times}
+use Rattle.terms.specs.Rate.{rateOf, rate-in}
 use Rattle.terms.specs.Reckoned.{meetOf}
 use Rattle.graph.specs.declared.shape.Mode.{Mode}
 use Rattle.graph.specs.declared.balance.Counts.{Counts}
@@ -43,7 +45,7 @@ module _ (phases : ℕ) (rates : List ℕ) (p : ProperRates phases rates) (few :
 
   pub cycle-most : cycleSum phases rates .0 ≤ MOST-TOKENS
   cycle-most =
-      omega (arith, sum-most (rateOf (take phases rates)) MOST-RATE phases (λ k h. omega (arith, rate-listed k h, p .small k)))
+      omega (arith, sum-most (rateOf (take phases rates)) (MOST-RATE .0) phases (λ k h. omega (arith, rate-listed k h, p .small k)))
 
   pub cycle-some : 0 < cycleSum phases rates .0
   cycle-some =
@@ -52,7 +54,7 @@ module _ (phases : ℕ) (rates : List ℕ) (p : ProperRates phases rates) (few :
       omega (arith, rate-listed k h, sum-one (rateOf (take phases rates)) k phases h)
 
 -- tokens of so many cycles fit into a word
-pub tokens-fit : (n t : ℕ) → n ≤ ITERATION-LIMIT → t ≤ MOST-TOKENS → n * t < 2 ^ 64
+pub tokens-fit : (n t : ℕ) → n ≤ MOST-CYCLES → t ≤ MOST-TOKENS → n * t < 2 ^ 64
 tokens-fit n t h g = omega (arith, mul-le-mul h g)
 
 module _ (m : Mode) (proper : ProperMode m) (k : ℕ) (h : k < m .count) where
@@ -71,10 +73,10 @@ module _ (m : Mode) (proper : ProperMode m) (k : ℕ) (h : k < m .count) where
 
 -- the counts balance channel k
 abbrev pub Even : Mode → List ℕ → ℕ → Type 0
-Even m x k = times (getD x (channelAt m k .from) 0) (madeOn m k) ≡ times (getD x (channelAt m k .to) 0) (takenOn m k)
+Even m x k = timesTokens (getD x (channelAt m k .from) 0) (madeOn m k) ≡ timesTokens (getD x (channelAt m k .to) 0) (takenOn m k)
 
 even-is : (m : Mode) (x : List ℕ) (k : ℕ)
-    → Decides (Even m x k) (eqb (times (getD x (channelAt m k .from) 0) (madeOn m k) .0) (times (getD x (channelAt m k .to) 0) (takenOn m k) .0))
+    → Decides (Even m x k) (eqb (timesTokens (getD x (channelAt m k .from) 0) (madeOn m k) .0) (timesTokens (getD x (channelAt m k .to) 0) (takenOn m k) .0))
 even-is m x k = decides-eqb _ _ ((λ e i. record { 0 = e i }), (λ e. ap (λ (t : Token). t .0) e))
 
 pub balances-decides : (m : Mode) (x : List ℕ) (n : ℕ) → Decides (Below (Even m x) n) (balancesb m x n)
@@ -83,15 +85,15 @@ balances-decides m x n = all-decides (Even m x) (balancesb m x) _ refl (λ n. re
 
 -- whether the counts of the actors below n, so many times, stay within the limit
 data Stays (x : List ℕ) (t n : ℕ) : Bool → Type 0 where
-  all : ((j : ℕ) → j < n → getD x j 0 * t ≤ ITERATION-LIMIT) → Stays x t n true
-  some : (j : ℕ) → j < n → ITERATION-LIMIT < getD x j 0 * t → Stays x t n false
+  all : ((j : ℕ) → j < n → getD x j 0 * t ≤ MOST-CYCLES) → Stays x t n true
+  some : (j : ℕ) → j < n → MOST-CYCLES < getD x j 0 * t → Stays x t n false
 
 stays-told : (x : List ℕ) (t n : ℕ) → Stays x t n (stays x t n)
 unfolding stays
 stays-told x t zero = all (λ j h. absurd (not-suc-le-zero h))
-stays-told x t (suc n) = go (stays x t n) (leb (getD x n 0 * t) ITERATION-LIMIT) refl (stays-told x t n)
+stays-told x t (suc n) = go (stays x t n) (leb (getD x n 0 * t) MOST-CYCLES) refl (stays-told x t n)
   where
-    go : (a b : Bool) → leb (getD x n 0 * t) ITERATION-LIMIT ≡ b → Stays x t n a → Stays x t (suc n) (a && b)
+    go : (a b : Bool) → leb (getD x n 0 * t) MOST-CYCLES ≡ b → Stays x t n a → Stays x t (suc n) (a && b)
     go true true e (all f) = all (λ j h. ⊎-elim (λ (q : j ≡ n). rw q (leb-true _ _ e)) (λ (l : j < n). f j l) (eq-or-lt-of-le (le-of-suc-le-suc h)))
     go true false e (all f) = some n (lt-suc-self n) (leb-false _ _ e)
     go false b e (some j h l) = some j (omega arith) l
@@ -99,7 +101,7 @@ stays-told x t (suc n) = go (stays x t n) (leb (getD x n 0 * t) ITERATION-LIMIT)
 -- the counts as they are scaled from the front: those below i are, and stayed within the limit
 pub record Scaling (x : List ℕ) (t : ℕ) (next : List ℕ) (i : ℕ) : Type 0 where
   pub long : length next ≡ ACTORS
-  pub stayed : (k : ℕ) → k < i → getD x k 0 * t ≤ ITERATION-LIMIT
+  pub stayed : (k : ℕ) → k < i → getD x k 0 * t ≤ MOST-CYCLES
   pub scaled : (k : ℕ) → k < i → getD next k 0 ≡ getD x k 0 * t
   pub ahead : (k : ℕ) → i ≤ k → getD next k 0 ≡ getD x k 0
 
@@ -107,7 +109,7 @@ module _ (x : List ℕ) (t : ℕ) where
   pub scaling-none : length x ≡ ACTORS → Scaling x t x 0
   scaling-none e = record { long = e; stayed = λ k h. absurd (not-suc-le-zero h); scaled = λ k h. absurd (not-suc-le-zero h); ahead = λ k h. refl }
 
-  pub scaling-more : (next : List ℕ) (i : ℕ) → i < ACTORS → getD next i 0 * t ≤ ITERATION-LIMIT → Scaling x t next i
+  pub scaling-more : (next : List ℕ) (i : ℕ) → i < ACTORS → getD next i 0 * t ≤ MOST-CYCLES → Scaling x t next i
       → Scaling x t (set next i (getD next i 0 * t)) (i + 1)
   scaling-more next i l h p =
       let e : getD next i 0 * t ≡ getD x i 0 * t = ap (λ (n : ℕ). n * t) (p .ahead i (le-refl i)) in
@@ -125,7 +127,7 @@ module _ (x : List ℕ) (t : ℕ) where
       go true (all f) = λ j. record { good = true; counts = is-tab ACTORS (λ i. getD x i 0 * t) next 0 (p .long) (p .scaled) j }
       go false (some j h l) = absurd (omega (arith, p .stayed j h))
 
-  pub scaled-over : (i : ℕ) → i < ACTORS → ITERATION-LIMIT < getD x i 0 * t → aboveLimit ≡ scaledOf x t
+  pub scaled-over : (i : ℕ) → i < ACTORS → MOST-CYCLES < getD x i 0 * t → aboveLimit ≡ scaledOf x t
   scaled-over i h l = go (stays x t ACTORS) (stays-told x t ACTORS)
     where
       go : (b : Bool) → Stays x t ACTORS b → _≡_ {A = Counts} aboveLimit (cond b (record { good = true; counts = tab ACTORS (λ i. getD x i 0 * t) }) aboveLimit)
@@ -134,15 +136,15 @@ module _ (x : List ℕ) (t : ℕ) where
 
 -- what a meeting makes of the counts: the new ones, or that one of them is above the limit
 pub data Met (x : List ℕ) (g : Meeting) (i : ℕ) : Counts → Type 0 where
-  new : g .takers ≤ ITERATION-LIMIT → ((j : ℕ) → j < ACTORS → getD x j 0 * g .times ≤ ITERATION-LIMIT)
+  new : g .takers ≤ MOST-CYCLES → ((j : ℕ) → j < ACTORS → getD x j 0 * g .times ≤ MOST-CYCLES)
       → Met x g i (record { good = true; counts = set (tab ACTORS (λ j. getD x j 0 * g .times)) i (g .takers) })
-  taker : ITERATION-LIMIT < g .takers → Met x g i aboveLimit
-  other : (j : ℕ) → j < ACTORS → ITERATION-LIMIT < getD x j 0 * g .times → Met x g i aboveLimit
+  taker : MOST-CYCLES < g .takers → Met x g i aboveLimit
+  other : (j : ℕ) → j < ACTORS → MOST-CYCLES < getD x j 0 * g .times → Met x g i aboveLimit
 
 pub met-told : (x : List ℕ) (g : Meeting) (i : ℕ) → Met x g i (metBy x g i)
-met-told x g i = go (ltb ITERATION-LIMIT (g .takers)) refl (stays x (g .times) ACTORS) (stays-told x (g .times) ACTORS)
+met-told x g i = go (ltb MOST-CYCLES (g .takers)) refl (stays x (g .times) ACTORS) (stays-told x (g .times) ACTORS)
   where
-    go : (a : Bool) → ltb ITERATION-LIMIT (g .takers) ≡ a → (b : Bool) → Stays x (g .times) ACTORS b
+    go : (a : Bool) → ltb MOST-CYCLES (g .takers) ≡ a → (b : Bool) → Stays x (g .times) ACTORS b
         → Met x g i (cond a aboveLimit (withCount (cond b (record { good = true; counts = tab ACTORS (λ j. getD x j 0 * g .times) }) aboveLimit) i (g .takers)))
     go true e b w = taker (ltb-true _ _ e)
     go false e true (all f) = new (ltb-false _ _ e) f
@@ -154,20 +156,20 @@ pub fed-met : (c : Counts) (f : Flow) (i : ℕ) (g : Meeting) → c .good ≡ tr
 unfolding fedOf
 fed-met c f i g h e = rw (h, e)
 
-pub met-over : (x : List ℕ) (g : Meeting) (i : ℕ) → ITERATION-LIMIT < g .takers → aboveLimit ≡ metBy x g i
+pub met-over : (x : List ℕ) (g : Meeting) (i : ℕ) → MOST-CYCLES < g .takers → aboveLimit ≡ metBy x g i
 met-over x g i h = rw (lt-ltb _ _ h)
 
-pub met-new : (x : List ℕ) (g : Meeting) (i : ℕ) (c : Counts) → g .takers ≤ ITERATION-LIMIT → c ≡ scaledOf x (g .times) → withCount c i (g .takers) ≡ metBy x g i
+pub met-new : (x : List ℕ) (g : Meeting) (i : ℕ) (c : Counts) → g .takers ≤ MOST-CYCLES → c ≡ scaledOf x (g .times) → withCount c i (g .takers) ≡ metBy x g i
 met-new x g i c h e = rw (le-ltb _ _ h, e)
 
 -- counts stay within the limit
 small-zero : Small (replicate ACTORS 0)
 small-zero = record { long = length-replicate {A = ℕ} ACTORS 0; small = λ i. omega (arith, getD-replicated {A = ℕ} ACTORS i 0) }
 
-small-set : (x : List ℕ) (i n : ℕ) → n ≤ ITERATION-LIMIT → Small x → Small (set x i n)
+small-set : (x : List ℕ) (i n : ℕ) → n ≤ MOST-CYCLES → Small x → Small (set x i n)
 small-set x i n h p = record { long = length-set x i n ∙ p .long; small = λ j. placed (decLt i (length x)) (ℕ-discrete j i) }
   where
-    placed : {j : ℕ} → Dec (i < length x) → Dec (j ≡ i) → getD (set x i n) j 0 ≤ ITERATION-LIMIT
+    placed : {j : ℕ} → Dec (i < length x) → Dec (j ≡ i) → getD (set x i n) j 0 ≤ MOST-CYCLES
     placed {j} (no f) d = rw (set-out x i n (omega arith)) (p .small j)
     placed {j} (yes l) (no f) = rw (getD-set-other x i j n 0 f) (p .small j)
     placed {j} (yes l) (yes e) = rw (e, getD-set-same x i n 0 l) h
@@ -181,7 +183,7 @@ fed-small c f i p = go (c .good) (met-told (c .counts) (meetOf (getD (c .counts)
         small-set (tab ACTORS (λ j. getD (c .counts) j 0 * g .times)) i (g .takers) h
         (record {
           long = length-tab ACTORS (λ j. getD (c .counts) j 0 * g .times);
-          small = tab-at (λ n. n ≤ ITERATION-LIMIT) ACTORS (λ j. getD (c .counts) j 0 * g .times) 0 zero-le s;
+          small = tab-at (λ n. n ≤ MOST-CYCLES) ACTORS (λ j. getD (c .counts) j 0 * g .times) 0 zero-le s;
         })
     met (taker h) = small-zero
     met (other j h l) = small-zero

@@ -9,19 +9,16 @@ use lib.ListN.{getD}
 use Rattle.numbers.specs.Bits.{size}
 use Rattle.units.specs.declared.Tick.{Tick}
 use Rattle.units.specs.declared.Firing.{Firing}
-use Rattle.terms.specs.Limits.{ACTORS, ITERATION-LIMIT}
+use Rattle.units.specs.Limits.{ACTORS, ITERATION-LIMIT}
 use Rattle.terms.specs.declared.period.Length.{Length}
 use Rattle.terms.specs.declared.period.Length.the-variants.{Is, Above as TooLong}
 use Rattle.graph.specs.declared.shape.Mode.{Mode}
-use Rattle.graph.specs.declared.order.Order.{Order}
-use Rattle.graph.specs.declared.balance.Counts.{Counts}
 use Rattle.graph.specs.declared.Verdict.the-variants.{Unbalanced as IsUnbalanced, Overloaded as IsOverloaded, Ends as HasNoEnds, Cyclic as IsCyclic}
 use Rattle.graph.specs.Shape.{Active}
 use Rattle.graph.specs.Proper.{ProperMode}
 use Rattle.graph.specs.Order.{Cyclic, Ranked}
 use Rattle.graph.specs.Ends.{Ends}
-use Rattle.graph.specs.Balance.{Iteration, Unbalanced}
-use Rattle.graph.specs.Load.{Overloaded}
+use Rattle.graph.specs.Balance.{Iteration}
 use Rattle.graph.specs.Judged.{refusedBy, Judged, cyclic, no-ends, unbalanced, overloaded, sound}
 use Rattle.graph.specs.Rounds.{lowestOf}
 use Rattle.graph.specs.Counts.{Counted, countsOf, balancesb}
@@ -56,7 +53,7 @@ module _ (m : Mode) (proper : ProperMode m) where
       counted = counts-counted m proper ds ranked s t ends acyclic good
 
       module _ (even : balancesb m found (m .count) ≡ true) where
-        by-load : (h : Tick) → Iteration m X h → h .0 ≤ ITERATION-LIMIT → Judged m (loaded m ds s t found qs ws (Is h))
+        by-load : (h : Tick) → Iteration m X h → h .0 ≤ ITERATION-LIMIT .0 → Judged m (loaded m ds s t found qs ws (Is h))
         by-load h iteration within = go (eqb over 0) refl
           where
             over : ℕ

@@ -18,26 +18,28 @@ use Rattle.numbers.specs.Reckoned.{lcmOf, lcm-of}
 use Rattle.numbers.specs.Tab.{length-tab, getD-tab, is-tab, tab-at, tab-same}
 use Rattle.units.specs.declared.Tick.{Tick}
 use Rattle.units.specs.declared.Firing.{Firing}
-use Rattle.units.specs.Ticks.{tick, laterOf}
-use Rattle.terms.specs.Limits.{ACTORS, PHASES, MOST-WCET, ITERATION-LIMIT}
+use Rattle.units.specs.Ticks.{tick, greaterTick}
+use Rattle.units.specs.Bounds.{MOST-FIRINGS, MOST-CYCLES}
+use Rattle.units.specs.Limits.{ACTORS, PHASES, MOST-WCET, ITERATION-LIMIT}
+use Rattle.units.specs.Firings.{firing}
 use Rattle.terms.specs.declared.period.Firings.{Firings}
 use Rattle.terms.specs.declared.period.Firings.the-variants.{Are, Above}
 use Rattle.terms.specs.declared.period.Length.{Length}
 use Rattle.terms.specs.declared.period.Length.the-variants.{Is, Above as TooLong}
-use Rattle.terms.specs.Period.{firing, beginsAt, periodOf, CommonWithin, IterationIs, IterationWithin}
+use Rattle.terms.specs.Period.{workOf, periodOf, CommonWithin, IterationIs, IterationWithin}
 use Rattle.terms.specs.Reckoned.{commonOf, common-of, common-is, lengthOf as reckonedOf, iteration-of}
 use Rattle.graph.specs.declared.shape.Actor.{Actor}
 use Rattle.graph.specs.declared.shape.Mode.{Mode}
 use Rattle.graph.specs.Shape.{noActor, actorAt, Active}
 use Rattle.graph.specs.Proper.{ProperMode}
-use Rattle.graph.specs.Balance.{Balances, Common, Most, Iteration, Unbalanced, firingsOf, workOf}
+use Rattle.graph.specs.Balance.{Balances, Common, Most, Iteration, Unbalanced, firingsOf, workIn}
 use Rattle.graph.specs.Laws.{iteration-one, iteration-scaled, iteration-pos, period-whole}
 use Rattle.graph.specs.Judged.{ofActors}
 use Rattle.graph.specs.Counts.{Counted}
 use Rattle.graph.specs.Lengths.{Fitting, Few, Light, Fires, firingsIn, worksIn, mostFrom, withFirings, commonFrom, lengthBy, lengthOf, periodsIn}
 
 -- one actor more, as a loop counts
-pub most-next : (ws : List Tick) (n : ℕ) → mostFrom ws (n + 1) ≡ laterOf (mostFrom ws n) (getD ws n (tick 0))
+pub most-next : (ws : List Tick) (n : ℕ) → mostFrom ws (n + 1) ≡ greaterTick (mostFrom ws n) (getD ws n (tick 0))
 unfolding mostFrom
 most-next ws n = rw add-one
 
@@ -67,15 +69,15 @@ most-is ws (suc n) = rw (most-is ws n)
 module _ (qs : List Firing) (active : ℕ) (fires : Fires qs active) where
   -- one actor more that is active: its firings are taken in
   pub common-taken : (n : ℕ) (l : Firing) (r : Firings) → n < ACTORS → hasb active n ≡ true → commonFrom qs active n ≡ Are l
-      → CommonWithin l (getD qs n (firing 0)) (firing ITERATION-LIMIT) r → commonFrom qs active (n + 1) ≡ r
+      → CommonWithin l (getD qs n (firing 0)) MOST-FIRINGS r → commonFrom qs active (n + 1) ≡ r
   common-taken n l r h has is p =
       common-next qs active n
-      ∙ rw (has, is) (sym (common-is l (getD qs n (firing 0)) (firing ITERATION-LIMIT) r (fires .fires n h (decides-true (has-decides active n) has)) p))
+      ∙ rw (has, is) (sym (common-is l (getD qs n (firing 0)) MOST-FIRINGS r (fires .fires n h (decides-true (has-decides active n) has)) p))
 
   -- the least common multiple of the firings of the actors below n; or that each common multiple is above the limit
   abbrev Multiple : Firings → ℕ → Type 0
   Multiple (Are l) n = LcmOfAll (Has active) (λ i. getD qs i (firing 0) .0) n (l .0) × (0 < l .0)
-  Multiple Above n = (k : ℕ) → 0 < k → ((i : ℕ) → (i < n) × Has active i → getD qs i (firing 0) .0 ∣ k) → ITERATION-LIMIT < k
+  Multiple Above n = (k : ℕ) → 0 < k → ((i : ℕ) → (i < n) × Has active i → getD qs i (firing 0) .0 ∣ k) → MOST-FIRINGS .0 < k
 
   common-found : (n : ℕ) → n ≤ ACTORS → Multiple (commonFrom qs active n) n
   unfolding commonFrom
@@ -85,7 +87,7 @@ module _ (qs : List Firing) (active : ℕ) (fires : Fires qs active) where
       q : Firing
       q = getD qs n (firing 0)
 
-      with-one : Has active n → (l : Firing) → Multiple (Are l) n → (r : Firings) → CommonWithin l q (firing ITERATION-LIMIT) r → Multiple r (suc n)
+      with-one : Has active n → (l : Firing) → Multiple (Are l) n → (r : Firings) → CommonWithin l q MOST-FIRINGS r → Multiple r (suc n)
       with-one a l (p, pos) (Are k) (c, small) = (lcm-more _ _ n a c p, lcm-pos pos (fires .fires n h a) c)
       with-one a l (p, pos) Above c = λ k some f.
           let is = lcm-of (l .0) (q .0) (fires .fires n h a) in
@@ -95,7 +97,7 @@ module _ (qs : List Firing) (active : ℕ) (fires : Fires qs active) where
       go : (b : Bool) → hasb active n ≡ b → (r : Firings) → Multiple r n → Multiple (cond b (withFirings r q) r) (suc n)
       go true e (Are l) p =
           let a = decides-true (has-decides active n) e in
-          with-one a l p (commonOf l q (firing ITERATION-LIMIT)) (common-of l q (firing ITERATION-LIMIT) (fires .fires n h a))
+          with-one a l p (commonOf l q MOST-FIRINGS) (common-of l q MOST-FIRINGS (fires .fires n h a))
       go true e Above p = λ k some f. p k some (λ i b. f i (le-step (b .0), b .1))
       go false e (Are l) (p, pos) = (lcm-past _ _ n (decides-false (has-decides active n) e) p, pos)
       go false e Above p = λ k some f. p k some (λ i b. f i (le-step (b .0), b .1))
@@ -134,24 +136,24 @@ module _ (m : Mode) (proper : ProperMode m) where
     pub firings-at : (i : ℕ) → i < ACTORS → getD qs i (firing 0) ≡ firingsOf m X i
     firings-at i l = getD-tab ACTORS (firingsOf m X) i (firing 0) l
 
-    pub works-at : (i : ℕ) → i < ACTORS → getD ws i (tick 0) ≡ workOf m X i
+    pub works-at : (i : ℕ) → i < ACTORS → getD ws i (tick 0) ≡ workIn m X i
     works-at i l =
-        getD-tab ACTORS (λ i. beginsAt (tick 0) (actorAt m i .wcet) (getD qs i (firing 0))) i (tick 0) l
-        ∙ ap (λ (q : Firing). beginsAt (tick 0) (actorAt m i .wcet) q) (firings-at i l)
+        getD-tab ACTORS (λ i. workOf (actorAt m i .wcet) (getD qs i (firing 0))) i (tick 0) l
+        ∙ ap (λ (q : Firing). workOf (actorAt m i .wcet) q) (firings-at i l)
 
     pub firings-few : Few qs
     firings-few =
         record {
           long = length-tab ACTORS (firingsOf m X);
-          few = tab-at (λ q. q .0 ≤ PHASES * ITERATION-LIMIT) ACTORS (firingsOf m X) (firing 0) zero-le
+          few = tab-at (λ q. q .0 ≤ PHASES * MOST-CYCLES) ACTORS (firingsOf m X) (firing 0) zero-le
               (λ i l. mul-le-mul (actors-fitting .phases i) (counted .small .small i));
         }
 
     pub works-light : Light ws
     works-light =
         record {
-          long = length-tab ACTORS (λ i. beginsAt (tick 0) (actorAt m i .wcet) (getD qs i (firing 0)));
-          light = tab-at (λ w. w .0 ≤ PHASES * ITERATION-LIMIT * MOST-WCET) ACTORS (λ i. beginsAt (tick 0) (actorAt m i .wcet) (getD qs i (firing 0))) (tick 0) zero-le
+          long = length-tab ACTORS (λ i. workOf (actorAt m i .wcet) (getD qs i (firing 0)));
+          light = tab-at (λ w. w .0 ≤ PHASES * MOST-CYCLES * MOST-WCET .0) ACTORS (λ i. workOf (actorAt m i .wcet) (getD qs i (firing 0))) (tick 0) zero-le
               (λ i l. omega (arith, mul-le-mul (firings-few .few i) (actors-fitting .wcet i)));
         }
 
@@ -192,20 +194,20 @@ module _ (m : Mode) (proper : ProperMode m) where
             (active-or-none j)
 
     -- the length that is found is that of the iteration
-    pub length-is : (i : ℕ) × Active m i → (h : Tick) → lengthOf ws qs (m .active) ≡ Is h → Iteration m X h × (h .0 ≤ ITERATION-LIMIT)
+    pub length-is : (i : ℕ) × Active m i → (h : Tick) → lengthOf ws qs (m .active) ≡ Is h → Iteration m X h × (h .0 ≤ ITERATION-LIMIT .0)
     length-is (i, a) h e = go (commonFrom qs (m .active) ACTORS) (common-found qs (m .active) firings-fire ACTORS (le-refl ACTORS)) e
       where
         w : Tick
         w = mostFrom ws ACTORS
 
-        go : (r : Firings) → Multiple qs (m .active) firings-fire r ACTORS → lengthBy r w ≡ Is h → Iteration m X h × (h .0 ≤ ITERATION-LIMIT)
+        go : (r : Firings) → Multiple qs (m .active) firings-fire r ACTORS → lengthBy r w ≡ Is h → Iteration m X h × (h .0 ≤ ITERATION-LIMIT .0)
         go (Are l) p e =
-            let (is, small) = subst (λ (r : Length). IterationWithin l w (tick ITERATION-LIMIT) r) e (iteration-of l w (tick ITERATION-LIMIT) (p .1)) in
+            let (is, small) = subst (λ (r : Length). IterationWithin l w ITERATION-LIMIT r) e (iteration-of l w ITERATION-LIMIT (p .1)) in
             ((l, w, shared-is l p, most-of i a, is), small)
         go Above p e = let z : _≡_ {A = ℕ} 0 1 = cc in absurd (omega arith)
 
     -- where it is found to be above the limit, each multiple of the counts has an iteration above the limit
-    above : lengthOf ws qs (m .active) ≡ TooLong → (y : ℕ → ℕ) (n : ℕ) (h : Tick) → 1 ≤ n → ((i : ℕ) → Active m i → y i ≡ n * X i) → Iteration m y h → ITERATION-LIMIT < h .0
+    above : lengthOf ws qs (m .active) ≡ TooLong → (y : ℕ → ℕ) (n : ℕ) (h : Tick) → 1 ≤ n → ((i : ℕ) → Active m i → y i ≡ n * X i) → Iteration m y h → ITERATION-LIMIT .0 < h .0
     above e y n h some scaled iteration =
         go (commonFrom qs (m .active) ACTORS) (common-found qs (m .active) firings-fire ACTORS (le-refl ACTORS)) e
       where
@@ -215,14 +217,14 @@ module _ (m : Mode) (proper : ProperMode m) where
         counts : (i : ℕ) → Active m i → 1 ≤ y i
         counts i a = rw (scaled i a) (mul-pos some (counted .some i a))
 
-        go : (r : Firings) → Multiple qs (m .active) firings-fire r ACTORS → lengthBy r w ≡ TooLong → ITERATION-LIMIT < h .0
+        go : (r : Firings) → Multiple qs (m .active) firings-fire r ACTORS → lengthBy r w ≡ TooLong → ITERATION-LIMIT .0 < h .0
         go (Are l) p e =
             let (i, a, d) = iteration .3 .holds in
             let g = reckonedOf l w in
             let is : IterationIs l w g = (roundedOf (w .0) (l .0), rounded-of (w .0) (l .0) (p .1), refl) in
             let one : h ≡ tick (n * g .0) = iteration-one m y iteration (iteration-scaled m X y n some scaled (l, w, shared-is l p, most-of i a, is)) in
-            let long : ITERATION-LIMIT < g .0
-            = subst (λ (r : Length). IterationWithin l w (tick ITERATION-LIMIT) r) e (iteration-of l w (tick ITERATION-LIMIT) (p .1)) g is in
+            let long : ITERATION-LIMIT .0 < g .0
+            = subst (λ (r : Length). IterationWithin l w ITERATION-LIMIT r) e (iteration-of l w ITERATION-LIMIT (p .1)) g is in
             omega (arith, ap (λ (t : Tick). t .0) one, le-mul-of-pos-right (g .0) some, mul-comm (g .0) n)
         go Above p e =
             p (h .0) (iteration-pos m proper y counts iteration)

@@ -14,9 +14,11 @@ use Rattle.numbers.specs.Bits.{bit, Has, hasb, has-or-not, has-decides}
 use Rattle.numbers.specs.Decides.{Decides, decides-and, decides-eqb, decides-true, decides-false}
 use Rattle.numbers.specs.Tab.{tab, getD-tab, length-tab, getD-replicated}
 use Rattle.units.specs.declared.Token.{Token}
-use Rattle.terms.specs.Limits.{ACTORS, ITERATION-LIMIT}
+use Rattle.units.specs.Bounds.{MOST-CYCLES}
+use Rattle.units.specs.Limits.{ACTORS}
+use Rattle.units.specs.Tokens.{timesTokens}
 use Rattle.terms.specs.declared.rate.Meeting.{Meeting}
-use Rattle.terms.specs.Rate.{times, Meets}
+use Rattle.terms.specs.Rate.{Meets}
 use Rattle.terms.specs.Reckoned.{meetOf, meet-of}
 use Rattle.graph.specs.declared.shape.Mode.{Mode}
 use Rattle.graph.specs.declared.balance.Counts.{Counts}
@@ -79,7 +81,7 @@ module _ (m : Mode) (proper : ProperMode m) (ds : List ℕ) (ranked : Ranked m d
   -- what n steps have found: such counts, or that of all balancing counts one is above the limit
   data Told (n : ℕ) : Counts → Type 0 where
     fine : (x : List ℕ) → Divides n x → Told n (record { good = true; counts = x })
-    over : ((y : ℕ → ℕ) → Balances m y → (i : ℕ) × Active m i × (ITERATION-LIMIT < y i)) → Told n aboveLimit
+    over : ((y : ℕ → ℕ) → Balances m y → (i : ℕ) × Active m i × (MOST-CYCLES < y i)) → Told n aboveLimit
 
   -- in the beginning: the source, which alone has depth 0
   source-active : Active m s
@@ -173,8 +175,8 @@ module _ (m : Mode) (proper : ProperMode m) (ds : List ℕ) (ranked : Ranked m d
         → (k : ℕ) × (y here ≡ k * meeting .takers) × ((i : ℕ) → Reached n i → y i ≡ k * (getD x i 0 * meeting .times))
     shared y b =
         let (k, h) = p .divides y b in
-        let e : times (k * getD x maker 0) (madeOn m entry) ≡ times (y here) (takenOn m entry)
-        = ap (λ (c : ℕ). times c (madeOn m entry)) (sym (h maker maker-reached)) ∙ b .even entry (enters .0) ∙ ap (λ (i : ℕ). times (y i) (takenOn m entry)) (enters .1) in
+        let e : timesTokens (k * getD x maker 0) (madeOn m entry) ≡ timesTokens (y here) (takenOn m entry)
+        = ap (λ (c : ℕ). timesTokens c (madeOn m entry)) (sym (h maker maker-reached)) ∙ b .even entry (enters .0) ∙ ap (λ (i : ℕ). timesTokens (y i) (takenOn m entry)) (enters .1) in
         let (l, a, c) = meets .each k (y here) e in
         (l, c, λ i r. scale k l (getD x i 0) (meeting .times) (y i) a (h i r))
       where
@@ -219,7 +221,7 @@ module _ (m : Mode) (proper : ProperMode m) (ds : List ℕ) (ranked : Ranked m d
       where
         go : (y : ℕ → ℕ) → Balances m y
             → (k : ℕ) × (y here ≡ k * meeting .takers) × ((i : ℕ) → Reached n i → y i ≡ k * (getD x i 0 * meeting .times))
-            → Dec (Reached n j) → (i : ℕ) × Active m i × (ITERATION-LIMIT < y i)
+            → Dec (Reached n j) → (i : ℕ) × Active m i × (MOST-CYCLES < y i)
         go y b (k, e, f) (yes r) = (j, r .0, lt-of-lt-of-le h (multiple-least k (getD x j 0 * meeting .times) (f j r) (b .some j (r .0))))
         go y b w (no f) = absurd (omega (arith, h, ap (λ (c : ℕ). c * meeting .times) (p .none j l f), zero-mul (meeting .times)))
 

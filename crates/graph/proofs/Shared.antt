@@ -19,14 +19,15 @@ use Rattle.numbers.specs.Lowest.{FirstPasses, NonePasses, lowestOr, lowest-next
 use Rattle.numbers.specs.Sum.{sum}
 use Rattle.numbers.specs.Tab.{tab, getD-tab, tab-same}
 use Rattle.units.specs.declared.Tick.{Tick}
-use Rattle.units.specs.Ticks.{tick, plusOf}
-use Rattle.terms.specs.Limits.{ACTORS, PHASES, MOST-WCET, PROCESSORS, ITERATION-LIMIT, LOAD-LIMIT}
+use Rattle.units.specs.Ticks.{tick, plusTicks}
+use Rattle.units.specs.Bounds.{MOST-CYCLES}
+use Rattle.units.specs.Limits.{ACTORS, PHASES, MOST-WCET, PROCESSORS, LOAD-LIMIT}
 use Rattle.terms.specs.Period.{partOf}
 use Rattle.graph.specs.declared.shape.Actor.{Actor}
 use Rattle.graph.specs.declared.shape.Mode.{Mode}
 use Rattle.graph.specs.Shape.{noActor, actorAt}
 use Rattle.graph.specs.Proper.{ProperMode}
-use Rattle.graph.specs.Balance.{Iteration, firingsOf, workOf}
+use Rattle.graph.specs.Balance.{Iteration, firingsOf, workIn}
 use Rattle.graph.specs.Load.{isOn, askedBy, loadOf, Overloaded, shareOf}
 use Rattle.graph.specs.Laws.{iteration-pos, period-whole, period-fits}
 use Rattle.graph.specs.Counts.{Counted}
@@ -50,18 +51,18 @@ over-next shares h p a r l e d =
 
 -- one actor more, as a loop counts
 pub share-next : (acts : List Actor) (ws : List Tick) (p n : ℕ)
-    → shareFrom acts ws p (n + 1) ≡ cond (eqb (getD acts n noActor .processor) p) (plusOf (shareFrom acts ws p n) (getD ws n (tick 0))) (shareFrom acts ws p n)
+    → shareFrom acts ws p (n + 1) ≡ cond (eqb (getD acts n noActor .processor) p) (plusTicks (shareFrom acts ws p n) (getD ws n (tick 0))) (shareFrom acts ws p n)
 unfolding shareFrom
 share-next acts ws p n = rw add-one
 
 -- the share of n actors is at most n works
-pub share-most : (acts : List Actor) (ws : List Tick) (p : ℕ) → Light ws → (n : ℕ) → shareFrom acts ws p n .0 ≤ n * (PHASES * ITERATION-LIMIT * MOST-WCET)
+pub share-most : (acts : List Actor) (ws : List Tick) (p : ℕ) → Light ws → (n : ℕ) → shareFrom acts ws p n .0 ≤ n * (PHASES * MOST-CYCLES * MOST-WCET .0)
 unfolding shareFrom
 share-most acts ws p light zero = omega arith
 share-most acts ws p light (suc n) = go (eqb (getD acts n noActor .processor) p) (share-most acts ws p light n)
   where
-    go : (b : Bool) → shareFrom acts ws p n .0 ≤ n * (PHASES * ITERATION-LIMIT * MOST-WCET)
-        → cond b (plusOf (shareFrom acts ws p n) (getD ws n (tick 0))) (shareFrom acts ws p n) .0 ≤ suc n * (PHASES * ITERATION-LIMIT * MOST-WCET)
+    go : (b : Bool) → shareFrom acts ws p n .0 ≤ n * (PHASES * MOST-CYCLES * MOST-WCET .0)
+        → cond b (plusTicks (shareFrom acts ws p n) (getD ws n (tick 0))) (shareFrom acts ws p n) .0 ≤ suc n * (PHASES * MOST-CYCLES * MOST-WCET .0)
     go true h = omega (arith, light .light n)
     go false h = omega arith
 
@@ -76,17 +77,17 @@ module _ (m : Mode) (proper : ProperMode m) (x : List ℕ) (counted : Counted m 
   shares = sharesIn (m .actors) ws
 
   -- of an actor that is not active there is no work
-  no-work : (i : ℕ) → i < ACTORS → hasb (m .active) i ≡ false → workOf m X i .0 ≡ 0
+  no-work : (i : ℕ) → i < ACTORS → hasb (m .active) i ≡ false → workIn m X i .0 ≡ 0
   no-work i l e = omega (arith, ap (λ (a : Actor). firingsOf m X i .0 * a .wcet .0) (proper .no-actor i l (decides-false (has-decides (m .active) i) e)))
 
-  share-is : (p n : ℕ) → n ≤ ACTORS → shareFrom (m .actors) ws p n .0 ≡ sum (λ i. cond (isOn m p i) (workOf m X i .0) 0) n
+  share-is : (p n : ℕ) → n ≤ ACTORS → shareFrom (m .actors) ws p n .0 ≡ sum (λ i. cond (isOn m p i) (workIn m X i .0) 0) n
   unfolding shareFrom sum
   share-is p zero h = refl
   share-is p (suc n) h = go (hasb (m .active) n) refl (eqb (actorAt m n .processor) p) (share-is p n (omega arith))
     where
-      go : (a : Bool) → hasb (m .active) n ≡ a → (b : Bool) → shareFrom (m .actors) ws p n .0 ≡ sum (λ i. cond (isOn m p i) (workOf m X i .0) 0) n
-          → cond b (plusOf (shareFrom (m .actors) ws p n) (getD ws n (tick 0))) (shareFrom (m .actors) ws p n) .0
-          ≡ sum (λ i. cond (isOn m p i) (workOf m X i .0) 0) n + cond (a && b) (workOf m X n .0) 0
+      go : (a : Bool) → hasb (m .active) n ≡ a → (b : Bool) → shareFrom (m .actors) ws p n .0 ≡ sum (λ i. cond (isOn m p i) (workIn m X i .0) 0) n
+          → cond b (plusTicks (shareFrom (m .actors) ws p n) (getD ws n (tick 0))) (shareFrom (m .actors) ws p n) .0
+          ≡ sum (λ i. cond (isOn m p i) (workIn m X i .0) 0) n + cond (a && b) (workIn m X n .0) 0
       go true e true ih = rw (works-at m proper x counted n h) (omega arith)
       go true e false ih = omega arith
       go false e true ih = rw (works-at m proper x counted n h) (omega (arith, no-work n h e))
@@ -99,10 +100,10 @@ module _ (m : Mode) (proper : ProperMode m) (x : List ℕ) (counted : Counted m 
 
   module _ (h : Tick) (iteration : Iteration m X h) (p : ℕ) where
     -- what an actor asks of its processor is its work, as a part of the iteration
-    asked-same : (i : ℕ) → i < ACTORS → Same (cond (isOn m p i) (askedBy m X h i) nothing) (record { over = cond (isOn m p i) (workOf m X i .0) 0; under = h .0 })
+    asked-same : (i : ℕ) → i < ACTORS → Same (cond (isOn m p i) (askedBy m X h i) nothing) (record { over = cond (isOn m p i) (workIn m X i .0) 0; under = h .0 })
     asked-same i l = go (hasb (m .active) i) refl (eqb (actorAt m i .processor) p)
       where
-        go : (a : Bool) → hasb (m .active) i ≡ a → (b : Bool) → Same (cond (a && b) (askedBy m X h i) nothing) (record { over = cond (a && b) (workOf m X i .0) 0; under = h .0 })
+        go : (a : Bool) → hasb (m .active) i ≡ a → (b : Bool) → Same (cond (a && b) (askedBy m X h i) nothing) (record { over = cond (a && b) (workIn m X i .0) 0; under = h .0 })
         go true e true =
             omega (arith, ap (λ (t : ℕ). actorAt m i .wcet .0 * t) (period-whole m X iteration i (l, decides-true (has-decides (m .active) i) e)))
         go true e false = omega arith
@@ -124,7 +125,7 @@ module _ (m : Mode) (proper : ProperMode m) (x : List ℕ) (counted : Counted m 
         same-at-most (loadOf m X h p) (partOf (shareOf m X p) h) LOAD-LIMIT
         (sum-proper (λ i. cond (isOn m p i) (askedBy m X h i) nothing) ACTORS asked-proper)
         (iteration-pos m proper X (counted .some) iteration)
-        (sum-common (λ i. cond (isOn m p i) (askedBy m X h i) nothing) (λ i. cond (isOn m p i) (workOf m X i .0) 0) (h .0) ACTORS asked-same)
+        (sum-common (λ i. cond (isOn m p i) (askedBy m X h i) nothing) (λ i. cond (isOn m p i) (workIn m X i .0) 0) (h .0) ACTORS asked-same)
 
     -- the test answers whether a processor is overloaded
     over-is : 1 ≤ p → p ≤ PROCESSORS → Decides (Overloaded m X h p) (overb shares h p)

@@ -16,7 +16,7 @@ use lib.Seq.{getD-set-same, getD-set-other}
 use Rattle.numbers.specs.Bits.{bit, Has, hasb, Within, size, adding, has-or-not, has-decides, within-decides, has-adding, bit-adding-other, bit-removing-same, bit-removing-other, bit-zero, has-below, outside, some-has, size-none, none-size, size-most, size-adding}
 use Rattle.numbers.specs.Decides.{Decides, decides-and, decides-true, decides-false}
 use Rattle.numbers.specs.Tab.{getD-replicated}
-use Rattle.terms.specs.Limits.{ACTORS}
+use Rattle.units.specs.Limits.{ACTORS}
 use Rattle.graph.specs.declared.shape.Channel.{Channel}
 use Rattle.graph.specs.declared.shape.Mode.{Mode}
 use Rattle.graph.specs.declared.order.Order.{Order}

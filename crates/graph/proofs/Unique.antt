@@ -16,14 +16,15 @@ use Rattle.numbers.specs.Sum.{sum-same}
 use Rattle.numbers.specs.Tab.{tab-same}
 use Rattle.units.specs.Ticks.{tick}
 use Rattle.units.specs.declared.Tick.{Tick}
-use Rattle.terms.specs.Limits.{ACTORS, PROCESSORS, LOAD-LIMIT}
-use Rattle.terms.specs.Period.{firing, periodOf}
+use Rattle.units.specs.Limits.{ACTORS, PROCESSORS, LOAD-LIMIT}
+use Rattle.units.specs.Firings.{firing}
+use Rattle.terms.specs.Period.{periodOf}
 use Rattle.graph.specs.declared.shape.Mode.{Mode}
 use Rattle.graph.specs.declared.Verdict.the-variants.{Overloaded as IsOverloaded}
 use Rattle.graph.specs.declared.Judgement.{Judgement}
 use Rattle.graph.specs.Shape.{Active, actorAt}
 use Rattle.graph.specs.Ends.{Only}
-use Rattle.graph.specs.Balance.{Smallest, Iteration, firingsOf, workOf}
+use Rattle.graph.specs.Balance.{Smallest, Iteration, firingsOf, workIn}
 use Rattle.graph.specs.Load.{Overloaded, isOn, askedBy, loadOf, shareOf}
 use Rattle.graph.specs.Laws.{iteration-one, iteration-same}
 use Rattle.graph.specs.Judged.{refusedBy, ofActors, Numbers, Judged, cyclic, no-ends, unbalanced, overloaded, sound}
@@ -53,7 +54,7 @@ module _ (m : Mode) where
 
   module _ (x y : ℕ → ℕ) (same : (i : ℕ) → Active m i → x i ≡ y i) where
     shares-same : (p : ℕ) → shareOf m x p ≡ shareOf m y p
-    shares-same p = ap tick (sum-same _ _ ACTORS (λ i l. on-actors (λ i. workOf m x i .0) (λ i. workOf m y i .0) 0 p i l (λ a. ap (λ (n : ℕ). workOf m (λ (j : ℕ). n) i .0) (same i a))))
+    shares-same p = ap tick (sum-same _ _ ACTORS (λ i l. on-actors (λ i. workIn m x i .0) (λ i. workIn m y i .0) 0 p i l (λ a. ap (λ (n : ℕ). workIn m (λ (j : ℕ). n) i .0) (same i a))))
 
     load-same : (h : Tick) (p : ℕ) → loadOf m x h p ≡ loadOf m y h p
     load-same h p = sum-alike _ _ ACTORS (λ i l. on-actors (askedBy m x h) (askedBy m y h) nothing p i l (λ a. ap (λ (n : ℕ). askedBy m (λ (j : ℕ). n) h i) (same i a)))

@@ -7,9 +7,10 @@ use lib.Dec.{eqb, leb, ltb}
 use lib.ListN.{length, getD, set, replicate}
 use Rattle.numbers.specs.Bits.{hasb}
 use Rattle.numbers.specs.Tab.{tab}
-use Rattle.terms.specs.Limits.{ACTORS, PHASES, MOST-RATE, ITERATION-LIMIT}
+use Rattle.units.specs.Bounds.{MOST-CYCLES}
+use Rattle.units.specs.Limits.{ACTORS, PHASES, MOST-RATE}
+use Rattle.units.specs.Tokens.{timesTokens}
 use Rattle.terms.specs.declared.rate.Meeting.{Meeting}
-use Rattle.terms.specs.Rate.{times}
 use Rattle.terms.specs.Reckoned.{meetOf}
 use Rattle.graph.specs.declared.shape.Actor.{Actor}
 use Rattle.graph.specs.declared.shape.Channel.{Channel}
@@ -21,12 +22,12 @@ use Rattle.graph.specs.Balance.{cycleSum, madeOn, takenOn}
 
 -- the most tokens of a cycle
 abbrev pub MOST-TOKENS : ℕ
-MOST-TOKENS = PHASES * MOST-RATE
+MOST-TOKENS = PHASES * MOST-RATE .0
 
 -- counts within the limit
 pub record Small (x : List ℕ) : Type 0 where
   pub long : length x ≡ ACTORS
-  pub small : (i : ℕ) → getD x i 0 ≤ ITERATION-LIMIT
+  pub small : (i : ℕ) → getD x i 0 ≤ MOST-CYCLES
 
 -- and of a mode's actors, each at least 1
 pub record Counted (m : Mode) (x : List ℕ) : Type 0 where
@@ -64,7 +65,7 @@ aboveLimit = record { good = false; counts = replicate ACTORS 0 }
 -- the counts of the actors below n stay within the limit
 unfoldable pub stays : List ℕ → ℕ → ℕ → Bool
 stays x t zero = true
-stays x t (suc n) = stays x t n && leb (getD x n 0 * t) ITERATION-LIMIT
+stays x t (suc n) = stays x t n && leb (getD x n 0 * t) MOST-CYCLES
 
 abbrev pub scaledOf : List ℕ → ℕ → Counts
 scaledOf x t = cond (stays x t ACTORS) (record { good = true; counts = tab ACTORS (λ i. getD x i 0 * t) }) aboveLimit
@@ -73,7 +74,7 @@ abbrev pub withCount : Counts → ℕ → ℕ → Counts
 withCount c i n = cond (c .good) (record { good = true; counts = set (c .counts) i n }) c
 
 abbrev pub metBy : List ℕ → Meeting → ℕ → Counts
-metBy x g i = cond (ltb ITERATION-LIMIT (g .takers)) aboveLimit (withCount (scaledOf x (g .times)) i (g .takers))
+metBy x g i = cond (ltb MOST-CYCLES (g .takers)) aboveLimit (withCount (scaledOf x (g .times)) i (g .takers))
 
 unfoldable pub fedOf : Counts → Flow → ℕ → Counts
 fedOf c f i = cond (c .good) (metBy (c .counts) (meetOf (getD (c .counts) (f .from) 0) (f .made) (f .taken)) i) c
@@ -96,4 +97,4 @@ countsOf m ds s = countsFrom m (entriesOf m) ds s (ACTORS * ACTORS)
 -- the counts balance the first n channels
 unfoldable pub balancesb : Mode → List ℕ → ℕ → Bool
 balancesb m x zero = true
-balancesb m x (suc n) = balancesb m x n && eqb (times (getD x (channelAt m n .from) 0) (madeOn m n) .0) (times (getD x (channelAt m n .to) 0) (takenOn m n) .0)
+balancesb m x (suc n) = balancesb m x n && eqb (timesTokens (getD x (channelAt m n .from) 0) (madeOn m n) .0) (timesTokens (getD x (channelAt m n .to) 0) (takenOn m n) .0)

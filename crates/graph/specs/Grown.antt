@@ -9,7 +9,7 @@ use lib.Pow.{pow-lt}
 use lib.ListN.{length-set, length-replicate, getD-replicate}
 use lib.Seq.{getD-set-same, getD-set-other}
 use Rattle.numbers.specs.Bits.{Has, has-adding, bit-zero}
-use Rattle.terms.specs.Limits.{ACTORS, CHANNELS}
+use Rattle.units.specs.Limits.{ACTORS, CHANNELS}
 use Rattle.graph.specs.declared.shape.Actor.{Actor}
 use Rattle.graph.specs.declared.shape.Channel.{Channel}
 use Rattle.graph.specs.declared.shape.Mode.{Mode}

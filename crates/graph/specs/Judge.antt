@@ -6,7 +6,7 @@ use lib.Dec.{eqb}
 use Rattle.numbers.specs.Bits.{size}
 use Rattle.units.specs.declared.Tick.{Tick}
 use Rattle.units.specs.declared.Firing.{Firing}
-use Rattle.terms.specs.Limits.{ACTORS}
+use Rattle.units.specs.Limits.{ACTORS}
 use Rattle.terms.specs.declared.period.Length.{Length}
 use Rattle.terms.specs.declared.period.Length.the-variants.{Is, Above as TooLong}
 use Rattle.graph.specs.declared.shape.Mode.{Mode}

@@ -9,8 +9,9 @@ use Rattle.numbers.specs.Extreme.{Least}
 use Rattle.numbers.specs.Tab.{tab}
 use Rattle.units.specs.declared.Tick.{Tick}
 use Rattle.units.specs.Ticks.{tick}
-use Rattle.terms.specs.Limits.{ACTORS, PROCESSORS, ITERATION-LIMIT}
-use Rattle.terms.specs.Period.{firing, periodOf}
+use Rattle.units.specs.Limits.{ACTORS, PROCESSORS, ITERATION-LIMIT}
+use Rattle.units.specs.Firings.{firing}
+use Rattle.terms.specs.Period.{periodOf}
 use Rattle.graph.specs.declared.shape.Mode.{Mode}
 use Rattle.graph.specs.declared.Verdict.{Verdict}
 use Rattle.graph.specs.declared.Verdict.the-variants.{Cyclic as IsCyclic, Ends as HasNoEnds, Unbalanced as IsUnbalanced, Overloaded as IsOverloaded, Sound as IsSound}
@@ -46,7 +47,7 @@ pub record Numbers (m : Mode) (x : ℕ → ℕ) (j : Judgement) : Type 0 where
   pub ends : Ends m (j .source) (j .sink)
   pub smallest : Smallest m x
   pub iteration : Iteration m x (j .iteration)
-  pub within : j .iteration .0 ≤ ITERATION-LIMIT
+  pub within : j .iteration .0 ≤ ITERATION-LIMIT .0
   pub depths-long : length (j .depths) ≡ ACTORS
   pub depth : (i : ℕ) → Active m i → Depth m i (getD (j .depths) i 0)
   pub no-depth : (i : ℕ) → i < ACTORS → (Active m i → ⊥) → getD (j .depths) i 0 ≡ 0
@@ -60,6 +61,6 @@ pub data Judged (m : Mode) : Judgement → Type 0 where
   cyclic : Cyclic m → Judged m (refusedBy IsCyclic)
   no-ends : (Cyclic m → ⊥) → NoEnds m → Judged m (refusedBy HasNoEnds)
   unbalanced : {s t : ℕ} → (Cyclic m → ⊥) → Ends m s t → Unbalanced m → Judged m (refusedBy IsUnbalanced)
-  overloaded : {s t p : ℕ} {h : Tick} (x : ℕ → ℕ) → (Cyclic m → ⊥) → Ends m s t → Smallest m x → Iteration m x h → h .0 ≤ ITERATION-LIMIT
+  overloaded : {s t p : ℕ} {h : Tick} (x : ℕ → ℕ) → (Cyclic m → ⊥) → Ends m s t → Smallest m x → Iteration m x h → h .0 ≤ ITERATION-LIMIT .0
       → Least (Overloaded m x h) p → Judged m (refusedBy (IsOverloaded p))
   sound : {j : Judgement} (x : ℕ → ℕ) → (Cyclic m → ⊥) → Numbers m x j → ((p : ℕ) → Overloaded m x (j .iteration) p → ⊥) → Judged m j

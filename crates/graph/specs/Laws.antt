@@ -7,11 +7,12 @@ use Rattle.numbers.specs.Extreme.{greatest-unique}
 use Rattle.numbers.specs.Quotient.{RoundedUp, rounded-times}
 use Rattle.units.specs.declared.Tick.{Tick}
 use Rattle.units.specs.Ticks.{tick}
-use Rattle.terms.specs.Period.{firing, periodOf, iteration-unique}
+use Rattle.units.specs.Firings.{firing}
+use Rattle.terms.specs.Period.{periodOf, iteration-unique}
 use Rattle.graph.specs.declared.shape.Mode.{Mode}
 use Rattle.graph.specs.Shape.{actorAt, Active}
 use Rattle.graph.specs.Proper.{ProperMode}
-use Rattle.graph.specs.Balance.{Balances, Iteration, firingsOf, workOf}
+use Rattle.graph.specs.Balance.{Balances, Iteration, firingsOf, workIn}
 
 module _ (m : Mode) (x : ℕ → ℕ) where
   -- counts have one iteration length
@@ -37,7 +38,7 @@ module _ (m : Mode) (x : ℕ → ℕ) where
     },
     record {
       holds = (i₀, a₀, work i₀ a₀ ∙ ap (λ (k : ℕ). n * k) (most .holds .2));
-      greatest = λ v (i, a, q). omega (arith, work i a, mul-le-mul-left n (most .greatest (workOf m x i .0) (i, a, refl)));
+      greatest = λ v (i, a, q). omega (arith, work i a, mul-le-mul-left n (most .greatest (workIn m x i .0) (i, a, refl)));
     },
     (r, rounded-times n (w .0) (l .0) pos rounded, omega (arith, ap (λ (k : ℕ). n * k) e)),
   )
@@ -51,7 +52,7 @@ module _ (m : Mode) (x : ℕ → ℕ) where
       firings : (i : ℕ) → Active m i → firingsOf m y i .0 ≡ n * firingsOf m x i .0
       firings i a = omega (arith, ap (λ (k : ℕ). actorAt m i .phases * k) (scaled i a))
 
-      work : (i : ℕ) → Active m i → workOf m y i .0 ≡ n * workOf m x i .0
+      work : (i : ℕ) → Active m i → workIn m y i .0 ≡ n * workIn m x i .0
       work i a = omega (arith, ap (λ (k : ℕ). k * actorAt m i .wcet .0) (firings i a))
 
   pub iteration-times : (n : ℕ) {h : Tick} → 1 ≤ n → Iteration m x h → Iteration m (λ i. n * x i) (tick (n * h .0))
@@ -69,10 +70,10 @@ module _ (m : Mode) (x : ℕ → ℕ) where
         let (l, w, common, most, (r, rounded, e)) = iteration in
         subst (λ (n : ℕ). firingsOf m x i .0 ∣ n) (sym e) (dvd-trans (firingsOf m x i .0) (common .each i a) (dvd-mul-right (l .0) r))
 
-    within : (i : ℕ) → Active m i → workOf m x i .0 ≤ h .0
+    within : (i : ℕ) → Active m i → workIn m x i .0 ≤ h .0
     within i a =
         let (l, w, common, most, (r, rounded, e)) = iteration in
-        omega (arith, e, rounded .holds, most .greatest (workOf m x i .0) (i, a, refl))
+        omega (arith, e, rounded .holds, most .greatest (workIn m x i .0) (i, a, refl))
 
     -- T is whole: q times T is H
     pub period-whole : (i : ℕ) → Active m i → periodOf h (firingsOf m x i) .0 * firingsOf m x i .0 ≡ h .0
@@ -82,7 +83,7 @@ module _ (m : Mode) (proper : ProperMode m) (x : ℕ → ℕ) (some : (i : ℕ) 
   fires : (i : ℕ) → Active m i → 0 < firingsOf m x i .0
   fires i a = mul-pos (proper .actor i (a .0) (a .1) .some-phase) (some i a)
 
-  works : (i : ℕ) → Active m i → 0 < workOf m x i .0
+  works : (i : ℕ) → Active m i → 0 < workIn m x i .0
   works i a = omega (arith, mul-pos (fires i a) (proper .actor i (a .0) (a .1) .some-tick))
 
   module _ {h : Tick} (iteration : Iteration m x h) where
@@ -103,7 +104,7 @@ module _ (m : Mode) (proper : ProperMode m) (x : ℕ → ℕ) (balances : Balanc
     firings-divide = divides m x iteration
 
     -- no actor has more work than H
-    pub work-within : (i : ℕ) → Active m i → workOf m x i .0 ≤ h .0
+    pub work-within : (i : ℕ) → Active m i → workIn m x i .0 ≤ h .0
     work-within = within m x iteration
 
     -- no count is above H

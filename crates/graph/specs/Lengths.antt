@@ -8,36 +8,38 @@ use lib.ListN.{length, getD}
 use Rattle.numbers.specs.Bits.{Has, hasb}
 use Rattle.numbers.specs.Lowest.{lowestOr}
 use Rattle.numbers.specs.Tab.{tab}
-use Rattle.numbers.specs.declared.fraction.Fraction.{Fraction}
+use Rattle.numbers.specs.Fraction.{atMostb}
 use Rattle.units.specs.declared.Tick.{Tick}
 use Rattle.units.specs.declared.Firing.{Firing}
-use Rattle.units.specs.Ticks.{tick, laterOf, plusOf}
-use Rattle.terms.specs.Limits.{ACTORS, PHASES, MOST-WCET, PROCESSORS, ITERATION-LIMIT, LOAD-LIMIT}
+use Rattle.units.specs.Ticks.{tick, greaterTick, plusTicks}
+use Rattle.units.specs.Bounds.{MOST-FIRINGS, MOST-CYCLES}
+use Rattle.units.specs.Limits.{ACTORS, PHASES, MOST-WCET, PROCESSORS, ITERATION-LIMIT, LOAD-LIMIT}
+use Rattle.units.specs.Firings.{firing}
 use Rattle.terms.specs.declared.period.Firings.{Firings}
 use Rattle.terms.specs.declared.period.Firings.the-variants.{Are, Above}
 use Rattle.terms.specs.declared.period.Length.{Length}
 use Rattle.terms.specs.declared.period.Length.the-variants.{Above as TooLong}
-use Rattle.terms.specs.Period.{firing, beginsAt, periodOf, partOf}
+use Rattle.terms.specs.Period.{workOf, periodOf, partOf}
+use Rattle.terms.specs.Rate.{cyclesOf}
 use Rattle.terms.specs.Reckoned.{commonOf, iterationOf}
 use Rattle.graph.specs.declared.shape.Actor.{Actor}
 use Rattle.graph.specs.Shape.{noActor}
-use Rattle.numbers.specs.Fraction.{atMostb}
 
 -- actors within their ranges
 pub record Fitting (acts : List Actor) : Type 0 where
   pub long : length acts ≡ ACTORS
   pub phases : (i : ℕ) → getD acts i noActor .phases ≤ PHASES
-  pub wcet : (i : ℕ) → getD acts i noActor .wcet .0 ≤ MOST-WCET
+  pub wcet : (i : ℕ) → getD acts i noActor .wcet .0 ≤ MOST-WCET .0
 
 -- firings of cycle counts within the limit
 pub record Few (qs : List Firing) : Type 0 where
   pub long : length qs ≡ ACTORS
-  pub few : (i : ℕ) → getD qs i (firing 0) .0 ≤ PHASES * ITERATION-LIMIT
+  pub few : (i : ℕ) → getD qs i (firing 0) .0 ≤ PHASES * MOST-CYCLES
 
 -- and works of such firings
 pub record Light (ws : List Tick) : Type 0 where
   pub long : length ws ≡ ACTORS
-  pub light : (i : ℕ) → getD ws i (tick 0) .0 ≤ PHASES * ITERATION-LIMIT * MOST-WCET
+  pub light : (i : ℕ) → getD ws i (tick 0) .0 ≤ PHASES * MOST-CYCLES * MOST-WCET .0
 
 -- every active actor fires
 pub record Fires (qs : List Firing) (active : ℕ) : Type 0 where
@@ -45,19 +47,19 @@ pub record Fires (qs : List Firing) (active : ℕ) : Type 0 where
   pub fires : (i : ℕ) → i < ACTORS → Has active i → 0 < getD qs i (firing 0) .0
 
 abbrev pub firingsIn : List Actor → List ℕ → List Firing
-firingsIn acts x = tab ACTORS (λ i. firing (getD acts i noActor .phases * getD x i 0))
+firingsIn acts x = tab ACTORS (λ i. cyclesOf (getD acts i noActor .phases) (getD x i 0))
 
 abbrev pub worksIn : List Actor → List Firing → List Tick
-worksIn acts qs = tab ACTORS (λ i. beginsAt (tick 0) (getD acts i noActor .wcet) (getD qs i (firing 0)))
+worksIn acts qs = tab ACTORS (λ i. workOf (getD acts i noActor .wcet) (getD qs i (firing 0)))
 
 -- the greatest of the first n
 unfoldable pub mostFrom : List Tick → ℕ → Tick
 mostFrom ws zero = tick 0
-mostFrom ws (suc n) = laterOf (mostFrom ws n) (getD ws n (tick 0))
+mostFrom ws (suc n) = greaterTick (mostFrom ws n) (getD ws n (tick 0))
 
 -- a multiple that is within the limit, with one number more
 abbrev pub withFirings : Firings → Firing → Firings
-withFirings (Are l) q = commonOf l q (firing ITERATION-LIMIT)
+withFirings (Are l) q = commonOf l q MOST-FIRINGS
 withFirings Above q = Above
 
 unfoldable pub commonFrom : List Firing → ℕ → ℕ → Firings
@@ -65,7 +67,7 @@ commonFrom qs active zero = Are (firing 1)
 commonFrom qs active (suc n) = cond (hasb active n) (withFirings (commonFrom qs active n) (getD qs n (firing 0))) (commonFrom qs active n)
 
 abbrev pub lengthBy : Firings → Tick → Length
-lengthBy (Are l) w = iterationOf l w (tick ITERATION-LIMIT)
+lengthBy (Are l) w = iterationOf l w ITERATION-LIMIT
 lengthBy Above w = TooLong
 
 abbrev pub lengthOf : List Tick → List Firing → ℕ → Length
@@ -77,7 +79,7 @@ periodsIn h qs active = tab ACTORS (λ i. cond (hasb active i) (periodOf h (getD
 -- the works of the actors below n on processor p
 unfoldable pub shareFrom : List Actor → List Tick → ℕ → ℕ → Tick
 shareFrom acts ws p zero = tick 0
-shareFrom acts ws p (suc n) = cond (eqb (getD acts n noActor .processor) p) (plusOf (shareFrom acts ws p n) (getD ws n (tick 0))) (shareFrom acts ws p n)
+shareFrom acts ws p (suc n) = cond (eqb (getD acts n noActor .processor) p) (plusTicks (shareFrom acts ws p n) (getD ws n (tick 0))) (shareFrom acts ws p n)
 
 abbrev pub sharesIn : List Actor → List Tick → List Tick
 sharesIn acts ws = tab PROCESSORS (λ p. shareFrom acts ws (suc p) ACTORS)

@@ -8,11 +8,11 @@ use Rattle.numbers.specs.Fraction.{sumOf, AtMost, nothing}
 use Rattle.numbers.specs.declared.fraction.Fraction.{Fraction}
 use Rattle.units.specs.declared.Tick.{Tick}
 use Rattle.units.specs.Ticks.{tick}
-use Rattle.terms.specs.Limits.{ACTORS, PROCESSORS, LOAD-LIMIT}
+use Rattle.units.specs.Limits.{ACTORS, PROCESSORS, LOAD-LIMIT}
 use Rattle.terms.specs.Period.{periodOf, partOf}
 use Rattle.graph.specs.declared.shape.Mode.{Mode}
 use Rattle.graph.specs.Shape.{actorAt}
-use Rattle.graph.specs.Balance.{firingsOf, workOf}
+use Rattle.graph.specs.Balance.{firingsOf, workIn}
 
 -- actor i is active on processor p
 abbrev pub isOn : Mode → ℕ → ℕ → Bool
@@ -34,4 +34,4 @@ pub record Overloaded (m : Mode) (x : ℕ → ℕ) (h : Tick) (p : ℕ) : Type 0
 
 -- the ticks of an iteration that processor p works
 abbrev pub shareOf : Mode → (ℕ → ℕ) → ℕ → Tick
-shareOf m x p = tick (sum (λ i. cond (isOn m p i) (workOf m x i .0) 0) ACTORS)
+shareOf m x p = tick (sum (λ i. cond (isOn m p i) (workIn m x i .0) 0) ACTORS)

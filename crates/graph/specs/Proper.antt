@@ -4,7 +4,7 @@ use mathlib.Core.List.{List}
 use Prim.Native.Nat.{ℕ, _^_, _≤_, _<_}
 use lib.ListN.{length, getD}
 use Rattle.numbers.specs.Bits.{Has}
-use Rattle.terms.specs.Limits.{MODES, ACTORS, CHANNELS, PHASES, MOST-WCET, MOST-RATE, PROCESSORS}
+use Rattle.units.specs.Limits.{MODES, ACTORS, CHANNELS, PHASES, MOST-WCET, MOST-RATE, PROCESSORS}
 use Rattle.graph.specs.declared.shape.Actor.{Actor}
 use Rattle.graph.specs.declared.shape.Channel.{Channel}
 use Rattle.graph.specs.declared.shape.Mode.{Mode}
@@ -16,14 +16,14 @@ pub record ProperActor (a : Actor) : Type 0 where
   pub some-phase : 1 ≤ a .phases
   pub phases : a .phases ≤ PHASES
   pub some-tick : 1 ≤ a .wcet .0
-  pub wcet : a .wcet .0 ≤ MOST-WCET
+  pub wcet : a .wcet .0 ≤ MOST-WCET .0
   pub some-processor : 1 ≤ a .processor
   pub processor : a .processor ≤ PROCESSORS
 
 -- a rate for each phase, not all of them 0, and 0 behind the last
 pub record ProperRates (phases : ℕ) (rates : List ℕ) : Type 0 where
   pub long : length rates ≡ PHASES
-  pub small : (k : ℕ) → getD rates k 0 ≤ MOST-RATE
+  pub small : (k : ℕ) → getD rates k 0 ≤ MOST-RATE .0
   pub behind : (k : ℕ) → phases ≤ k → getD rates k 0 ≡ 0
   pub some : (k : ℕ) × (0 < getD rates k 0)
 

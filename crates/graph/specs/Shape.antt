@@ -3,7 +3,7 @@ use mathlib.Core.List.{[]}
 use Prim.Native.Nat.{ℕ, _+_, _<_}
 use lib.ListN.{getD, set, replicate}
 use Rattle.numbers.specs.Bits.{Has, adding}
-use Rattle.terms.specs.Limits.{MODES, ACTORS, CHANNELS, PHASES}
+use Rattle.units.specs.Limits.{MODES, ACTORS, CHANNELS, PHASES}
 use Rattle.graph.specs.declared.shape.Actor.{Actor}
 use Rattle.graph.specs.declared.shape.Channel.{Channel}
 use Rattle.graph.specs.declared.shape.Mode.{Mode}

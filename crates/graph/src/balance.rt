@@ -3,16 +3,15 @@ use crate::shape::Actor;
 use crate::shape::Channel;
 use crate::shape::Mode;
 use bits::has;
-use terms::limits::ACTORS;
-use terms::limits::ITERATION_LIMIT;
-use terms::limits::PHASES;
 use terms::rate;
-use units::Firing;
 use units::Token;
+use units::bounds::MOST_CYCLES;
+use units::limits::ACTORS;
+use units::limits::PHASES;
 ghost use mathlib.Core.Path.{_≡_};
 ghost use Prim.Native.Nat.{_*_, _<_, _≤_};
 ghost use lib.ListN.{length};
-ghost use Rattle.terms.specs.Limits.{ACTORS, PHASES};
+ghost use Rattle.units.specs.Limits.{ACTORS, PHASES};
 ghost use Rattle.graph.specs.Balance.{cycleSum};
 ghost use Rattle.graph.specs.Proper.{ProperMode};
 ghost use Rattle.graph.specs.Counts.{MOST-TOKENS, Small, FlowIn, Entered, flowBetween, entriesOf, aboveLimit, scaledOf, fedOf, countsFrom, balancesb};
@@ -35,7 +34,7 @@ fn cycle_sum(phases: usize, rates: [u8; PHASES]) -> Token
     requires { ⌜ (phases ≤ PHASES) × (length rates ≡ PHASES) ⌝ }
     ensures { λ r. ⌜ r ≡ cycleSum phases rates ⌝ }
 {
-    rate::tokens(&rates[..phases], Firing(phases as u64))
+    rate::tokens(&rates[..phases], rate::phases(phases))
 }
 
 fn flow_of(channel: Channel, maker: Actor, taker: Actor) -> Flow
@@ -84,7 +83,7 @@ fn scaled(counts: [u64; ACTORS], times: u64) -> Counts
     let mut next = counts;
     for i in 0..ACTORS {
         let count = next[i] * times;
-        if ITERATION_LIMIT < count {
+        if MOST_CYCLES < count {
             return above();
         }
         next[i] = count;
@@ -106,7 +105,7 @@ fn fed(now: Counts, flow: Flow, i: usize) -> Counts
     let counts = now.counts;
     let from = flow.from;
     let meeting = rate::meet(counts[from], flow.made, flow.taken);
-    if ITERATION_LIMIT < meeting.takers {
+    if MOST_CYCLES < meeting.takers {
         return above();
     }
     let mut next = scaled(counts, meeting.times);

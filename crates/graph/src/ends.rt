@@ -1,10 +1,10 @@
 // The actors without incoming and without outgoing channels.
 use bits::has;
 use bits::with;
-use terms::limits::ACTORS;
+use units::limits::ACTORS;
 ghost use mathlib.Core.Path.{_≡_};
 ghost use lib.ListN.{length};
-ghost use Rattle.terms.specs.Limits.{ACTORS};
+ghost use Rattle.units.specs.Limits.{ACTORS};
 ghost use Rattle.graph.specs.Rounds.{firstsOf, giversFrom, lastsOf, lowestOf};
 
 // The active actors that no channel leads to.

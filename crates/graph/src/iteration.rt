@@ -1,16 +1,18 @@
 // The length of a mode's iteration, and the periods of its actors.
 use crate::shape::Actor;
 use bits::has;
-use terms::limits::ACTORS;
-use terms::limits::ITERATION_LIMIT;
 use terms::period;
 use terms::period::Firings;
 use terms::period::Length;
+use terms::rate;
 use units::Firing;
 use units::Tick;
+use units::bounds::MOST_FIRINGS;
+use units::limits::ACTORS;
+use units::limits::ITERATION_LIMIT;
 ghost use mathlib.Core.Path.{_≡_};
 ghost use lib.ListN.{length};
-ghost use Rattle.terms.specs.Limits.{ACTORS};
+ghost use Rattle.units.specs.Limits.{ACTORS};
 ghost use Rattle.graph.specs.Counts.{Small};
 ghost use Rattle.graph.specs.Lengths.{Fitting, Few, Fires, firingsIn, worksIn, mostFrom, commonFrom, lengthOf as lengthIn, periodsIn};
 
@@ -19,10 +21,10 @@ pub(crate) fn firings_of(actors: [Actor; ACTORS], counts: [u64; ACTORS]) -> [Fir
     requires { ⌜ Fitting actors × Small counts ⌝ }
     ensures { λ r. ⌜ r ≡ firingsIn actors counts ⌝ }
 {
-    let mut firings = [Firing(0); ACTORS];
+    let mut firings = [Firing::NONE; ACTORS];
     for i in 0..ACTORS {
         let actor = actors[i];
-        firings[i] = Firing(actor.phases as u64 * counts[i]);
+        firings[i] = rate::cycles(actor.phases, counts[i]);
     }
     firings
 }
@@ -32,10 +34,10 @@ pub(crate) fn works_of(actors: [Actor; ACTORS], firings: [Firing; ACTORS]) -> [T
     requires { ⌜ Fitting actors × Few firings ⌝ }
     ensures { λ r. ⌜ r ≡ worksIn actors firings ⌝ }
 {
-    let mut works = [Tick(0); ACTORS];
+    let mut works = [Tick::NONE; ACTORS];
     for i in 0..ACTORS {
         let actor = actors[i];
-        works[i] = period::begins(Tick(0), actor.wcet, firings[i]);
+        works[i] = period::work(actor.wcet, firings[i]);
     }
     works
 }
@@ -45,9 +47,9 @@ fn most_of(works: [Tick; ACTORS]) -> Tick
     requires { ⌜ length works ≡ ACTORS ⌝ }
     ensures { λ r. ⌜ r ≡ mostFrom works ACTORS ⌝ }
 {
-    let mut most = Tick(0);
+    let mut most = Tick::NONE;
     for i in 0..ACTORS {
-        most = most.later(works[i]);
+        most = most.greater(works[i]);
     }
     most
 }
@@ -57,11 +59,10 @@ fn common_of(firings: [Firing; ACTORS], active: u16) -> Firings
     requires { ⌜ Fires firings active ⌝ }
     ensures { λ r. ⌜ r ≡ commonFrom firings active ACTORS ⌝ }
 {
-    let mut multiple = Firing(1);
+    let mut multiple = Firing::ONE;
     for i in 0..ACTORS {
         if has(active, i) {
-            let Firings::Are(next) = period::common(multiple, firings[i], Firing(ITERATION_LIMIT))
-            else {
+            let Firings::Are(next) = period::common(multiple, firings[i], MOST_FIRINGS) else {
                 return Firings::Above;
             };
             multiple = next;
@@ -78,14 +79,14 @@ pub(crate) fn length_of(works: [Tick; ACTORS], firings: [Firing; ACTORS], active
     let Firings::Are(multiple) = common_of(firings, active) else {
         return Length::Above;
     };
-    period::iteration(multiple, most_of(works), Tick(ITERATION_LIMIT))
+    period::iteration(multiple, most_of(works), ITERATION_LIMIT)
 }
 
 pub(crate) fn periods_of(iteration: Tick, firings: [Firing; ACTORS], active: u16) -> [Tick; ACTORS]
     requires { ⌜ Fires firings active ⌝ }
     ensures { λ r. ⌜ r ≡ periodsIn iteration firings active ⌝ }
 {
-    let mut periods = [Tick(0); ACTORS];
+    let mut periods = [Tick::NONE; ACTORS];
     for i in 0..ACTORS {
         if has(active, i) {
             periods[i] = period::period(iteration, firings[i]);

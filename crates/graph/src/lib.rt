@@ -8,11 +8,11 @@ pub mod shape;
 
 use bits::size;
 use shape::Mode;
-use terms::limits::ACTORS;
-use terms::limits::PROCESSORS;
 use terms::period::Length;
 use units::Firing;
 use units::Tick;
+use units::limits::ACTORS;
+use units::limits::PROCESSORS;
 ghost use mathlib.Core.Path.{_≡_};
 ghost use Rattle.graph.specs.Shape.{Active};
 ghost use Rattle.graph.specs.Proper.{ProperMode};
@@ -51,12 +51,12 @@ fn refused(verdict: Verdict) -> Judgement
         verdict,
         source: 0,
         sink: 0,
-        iteration: Tick(0),
+        iteration: Tick::NONE,
         depths: [0; ACTORS],
         counts: [0; ACTORS],
-        firings: [Firing(0); ACTORS],
-        periods: [Tick(0); ACTORS],
-        shares: [Tick(0); PROCESSORS],
+        firings: [Firing::NONE; ACTORS],
+        periods: [Tick::NONE; ACTORS],
+        shares: [Tick::NONE; PROCESSORS],
     }
 }
 

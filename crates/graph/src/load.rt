@@ -1,15 +1,15 @@
 // What the actors of a mode ask of the processors.
 use crate::shape::Actor;
 use numbers::fraction::at_most;
-use terms::limits::ACTORS;
-use terms::limits::LOAD_LIMIT;
-use terms::limits::PROCESSORS;
 use terms::period;
 use units::Tick;
+use units::limits::ACTORS;
+use units::limits::LOAD_LIMIT;
+use units::limits::PROCESSORS;
 ghost use mathlib.Core.Path.{_≡_};
 ghost use Prim.Native.Nat.{_<_};
 ghost use lib.ListN.{length};
-ghost use Rattle.terms.specs.Limits.{ACTORS, PROCESSORS};
+ghost use Rattle.units.specs.Limits.{ACTORS, PROCESSORS};
 ghost use Rattle.graph.specs.Lengths.{Light, shareFrom, sharesIn, overloadedOf};
 
 // The ticks of an iteration that a processor works.
@@ -17,7 +17,7 @@ fn share_of(actors: [Actor; ACTORS], works: [Tick; ACTORS], processor: usize) ->
     requires { ⌜ (length actors ≡ ACTORS) × Light works ⌝ }
     ensures { λ r. ⌜ r ≡ shareFrom actors works processor ACTORS ⌝ }
 {
-    let mut share = Tick(0);
+    let mut share = Tick::NONE;
     for i in 0..ACTORS {
         let actor = actors[i];
         if actor.processor == processor {
@@ -31,7 +31,7 @@ pub(crate) fn shares_of(actors: [Actor; ACTORS], works: [Tick; ACTORS]) -> [Tick
     requires { ⌜ (length actors ≡ ACTORS) × Light works ⌝ }
     ensures { λ r. ⌜ r ≡ sharesIn actors works ⌝ }
 {
-    let mut shares = [Tick(0); PROCESSORS];
+    let mut shares = [Tick::NONE; PROCESSORS];
     for p in 0..PROCESSORS {
         shares[p] = share_of(actors, works, p + 1);
     }

@@ -5,11 +5,11 @@ use bits::size;
 use bits::with;
 use bits::within;
 use bits::without;
-use terms::limits::ACTORS;
+use units::limits::ACTORS;
 ghost use mathlib.Core.Path.{_≡_};
 ghost use Prim.Native.Nat.{_<_};
 ghost use lib.ListN.{length};
-ghost use Rattle.terms.specs.Limits.{ACTORS};
+ghost use Rattle.units.specs.Limits.{ACTORS};
 ghost use Rattle.graph.specs.Proper.{ProperMode};
 ghost use Rattle.graph.specs.Rounds.{predsOf, moved as movedOf, roundFrom, orderOf};
 

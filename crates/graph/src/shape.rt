@@ -1,9 +1,9 @@
 // A table in memory. Modes, actors and processors are numbered from 1 in a table's text; in these arrays the one with number n stands at n - 1.
-use terms::limits::ACTORS;
-use terms::limits::CHANNELS;
-use terms::limits::MODES;
-use terms::limits::PHASES;
 use units::Tick;
+use units::limits::ACTORS;
+use units::limits::CHANNELS;
+use units::limits::MODES;
+use units::limits::PHASES;
 
 // A stage of a mode: its phases, the most ticks that a firing needs, and the number of its processor.
 pub struct Actor {

@@ -8,18 +8,18 @@ use native.Mathlib.Decide.{decLt}
 use lib.ListN.{length, getD, take, replicate, length-append}
 use lib.Seq.{take-at, drop-at, take-all}
 use Rattle.numbers.specs.Tab.{tab, is-tab, getD-tab, getD-replicated}
-use Rattle.terms.specs.Limits.{MODES, ACTORS, CHANNELS, PHASES, MOST-RATE}
+use Rattle.units.specs.Limits.{MODES, ACTORS, CHANNELS, PHASES, MOST-RATE}
+use Rattle.units.specs.Tokens.{token}
+use Rattle.units.specs.declared.Token.{Token}
 use Rattle.graph.specs.declared.shape.Channel.{Channel}
 use Rattle.graph.specs.declared.shape.Mode.{Mode}
 use Rattle.graph.specs.declared.shape.Table.{Table}
 use Rattle.graph.specs.Shape.{noActor, noChannel, noMode, channelAt, modeAt}
 use Rattle.graph.specs.Proper.{ProperMode, ProperTable}
-use Rattle.units.specs.Tokens.{token}
-use Rattle.units.specs.declared.Token.{Token}
 use Rattle.whole.specs.declared.Part.{Part}
 use Rattle.whole.specs.declared.Whole.{Whole}
-use Rattle.layout.specs.Joined.{joined, stretch, part, length-joined, part-joined, joined-part}
 use Rattle.whole.specs.Whole.{partAt}
+use Rattle.layout.specs.Joined.{joined, stretch, part, length-joined, part-joined, joined-part}
 use Rattle.layout.specs.Words.{CHANGES, HEAD-WORDS, ACTOR-WORDS, CHANNEL-WORDS, MODE-WORDS, CHANGE-WORDS, WORDS, headWords, rateWords, channelWords, actorWordsAt, channelWordsAt, modeWords, modeWordsAt, changeWordsAt, modesWords, changesWords, wordsOf}
 use Rattle.layout.specs.Read.{actorOf, ratesOf, channelOf, actorsOf, channelsOf, modeOf, graphOf}
 
@@ -64,7 +64,7 @@ stretch-at p q t a k e h = ap (take k) (drop-at p (q ++ t) a e) ∙ take-at q t 
 -- rates in their range, one for each phase there can be
 pub record Small (rates : List ℕ) : Type 0 where
   pub long : length rates ≡ PHASES
-  pub small : (k : ℕ) → getD rates k 0 ≤ MOST-RATE
+  pub small : (k : ℕ) → getD rates k 0 ≤ MOST-RATE .0
 
 rates-back : (rates : List ℕ) → Small rates → ratesOf (rateWords rates) ≡ rates
 rates-back rates s =

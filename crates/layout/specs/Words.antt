@@ -8,8 +8,8 @@ use Rattle.units.specs.declared.Firing.{Firing}
 use Rattle.units.specs.declared.Token.{Token}
 use Rattle.units.specs.Ticks.{tick}
 use Rattle.units.specs.Tokens.{token}
-use Rattle.terms.specs.Limits.{MODES, ACTORS, CHANNELS, PHASES}
-use Rattle.terms.specs.Period.{firing}
+use Rattle.units.specs.Limits.{MODES, ACTORS, CHANNELS, PHASES}
+use Rattle.units.specs.Firings.{firing}
 use Rattle.graph.specs.declared.shape.Actor.{Actor}
 use Rattle.graph.specs.declared.shape.Channel.{Channel}
 use Rattle.graph.specs.declared.shape.Mode.{Mode}

@@ -3,14 +3,14 @@ use crate::store;
 use crate::store::MODE_WORDS;
 use graph::shape::Mode;
 use graph::shape::Table;
-use terms::limits::MODES;
+use units::limits::MODES;
 use whole::Part;
 use whole::Whole;
 ghost use mathlib.Core.Path.{_≡_};
 ghost use Prim.Native.Nat.{_*_};
 ghost use lib.ListN.{length};
 ghost use Rattle.numbers.specs.Decides.{Decides};
-ghost use Rattle.terms.specs.Limits.{MODES};
+ghost use Rattle.units.specs.Limits.{MODES};
 ghost use Rattle.layout.specs.Words.{CHANGES, MODE-WORDS, CHANGE-WORDS, modeWords, modesWords, changesWords};
 
 // Whether two lists of words are the same.

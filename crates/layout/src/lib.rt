@@ -4,7 +4,7 @@ mod load;
 mod store;
 
 use graph::shape::Table;
-use terms::limits::MODES;
+use units::limits::MODES;
 use whole::Whole;
 ghost use mathlib.Core.Path.{_≡_};
 ghost use lib.ListN.{length};

@@ -7,14 +7,14 @@ use crate::store::MODE_WORDS;
 use graph::shape::Actor;
 use graph::shape::Channel;
 use graph::shape::Mode;
-use terms::limits::ACTORS;
-use terms::limits::CHANNELS;
-use terms::limits::PHASES;
 use units::Tick;
+use units::limits::ACTORS;
+use units::limits::CHANNELS;
+use units::limits::PHASES;
 ghost use mathlib.Core.Path.{_≡_};
 ghost use Prim.Native.Nat.{_*_};
 ghost use lib.ListN.{length};
-ghost use Rattle.terms.specs.Limits.{ACTORS, CHANNELS, PHASES};
+ghost use Rattle.units.specs.Limits.{ACTORS, CHANNELS, PHASES};
 ghost use Rattle.graph.specs.Shape.{noActor, emptyChannel, emptyMode};
 ghost use Rattle.layout.specs.Words.{ACTOR-WORDS, CHANNEL-WORDS, MODE-WORDS};
 ghost use Rattle.layout.specs.Read.{actorOf, ratesOf, channelOf, actorsOf, channelsOf, modeOf};
@@ -24,7 +24,7 @@ fn no_actor() -> Actor
 {
     Actor {
         phases: 0,
-        wcet: Tick(0),
+        wcet: Tick::NONE,
         processor: 0,
     }
 }
@@ -57,7 +57,7 @@ fn actor_of(words: &[u64]) -> Actor
 {
     Actor {
         phases: words[0] as usize,
-        wcet: Tick(words[1]),
+        wcet: Tick::of(words[1]),
         processor: words[2] as usize,
     }
 }

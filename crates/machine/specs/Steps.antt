@@ -1,9 +1,10 @@
 -- Model of the machine's code: the lowest mode, and the change of a machine.
-use Prim.Native.Nat.{ℕ, _+_, _-_, _*_, _/_, _^_, _≤_, _<_}
+use Prim.Native.Nat.{ℕ, _+_, _-_, _*_, _/_, _≤_, _<_}
 use Rattle.numbers.specs.Lowest.{lowestOr}
-use Rattle.terms.specs.Limits.{MODES, CLOCK-LIMIT}
+use Rattle.units.specs.Bounds.{MOST-START}
+use Rattle.units.specs.Limits.{MODES, ITERATION-LIMIT, CLOCK-LIMIT}
 use Rattle.units.specs.declared.Tick.{Tick}
-use Rattle.units.specs.Ticks.{tick, laterOf}
+use Rattle.units.specs.Ticks.{tick, greaterTick}
 use Rattle.graph.specs.declared.shape.Table.{Table}
 use Rattle.whole.specs.declared.Whole.{Whole}
 use Rattle.whole.specs.Whole.{changeAt}
@@ -23,11 +24,11 @@ courseOf w o l = record { iteration = partOf w o .iteration; old = partOf w o .s
 -- ticks so small that every sum fits
 pub record Near (m : Machine) (c : Course) (t : Tick) : Type 0 where
   pub some : 0 < c .iteration .0
-  pub iteration : c .iteration .0 ≤ 2 ^ 32
-  pub old : c .old .0 ≤ 2 ^ 32
-  pub new : c .new .0 ≤ 2 ^ 32
-  pub offset : c .offset .0 ≤ 2 ^ 32
-  pub clock : t .0 ≤ CLOCK-LIMIT
+  pub iteration : c .iteration .0 ≤ ITERATION-LIMIT .0
+  pub old : c .old .0 ≤ MOST-START .0
+  pub new : c .new .0 ≤ MOST-START .0
+  pub offset : c .offset .0 ≤ MOST-START .0
+  pub clock : t .0 ≤ CLOCK-LIMIT .0
   pub started : m .started .0 ≤ t .0
 
 -- the tick at which the old mode is left
@@ -41,6 +42,6 @@ changedOf m c mode clock =
       machine = record {
         mode = mode;
         started = tick (leftOf m c clock .0 + c .offset .0);
-        ended = laterOf (tick (leftOf m c clock .0 + c .old .0)) (tick (leftOf m c clock .0 + c .offset .0 + c .new .0));
+        ended = greaterTick (tick (leftOf m c clock .0 + c .old .0)) (tick (leftOf m c clock .0 + c .offset .0 + c .new .0));
       };
     }

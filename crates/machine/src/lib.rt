@@ -4,10 +4,10 @@ mod modes;
 use modes::listed;
 use modes::lowest;
 use planner::recall;
-use terms::limits::CLOCK_LIMIT;
 use terms::refusal::Place;
 use terms::refusal::Refusal;
 use units::Tick;
+use units::limits::CLOCK_LIMIT;
 ghost use mathlib.Core.Path.{_≡_};
 ghost use Rattle.machine.specs.Answers.{refusalOf, refusing, Begins, Answers};
 ghost use Rattle.machine.specs.Steps.{Near, changedOf};
@@ -70,7 +70,7 @@ pub fn start(words: &[u64], mode: u64) -> Beginning
     let ended = part.startup;
     Beginning::Begun(Machine {
         mode: chosen,
-        started: Tick(0),
+        started: Tick::NONE,
         ended,
     })
 }
@@ -95,7 +95,7 @@ impl Machine {
         let times = clock
             .minus(since)
             .plus(iteration)
-            .minus(Tick(1))
+            .minus(Tick::ONE)
             .per(iteration);
         let left = since.plus(iteration.times(times));
         let started = left.plus(course.offset);
@@ -105,7 +105,7 @@ impl Machine {
             machine: Machine {
                 mode,
                 started,
-                ended: left.plus(course.old).later(set),
+                ended: left.plus(course.old).greater(set),
             },
         }
     }
@@ -125,7 +125,7 @@ impl Machine {
         }
         let started = self.started;
         let ended = self.ended;
-        if !started.by(ended) {
+        if !started.at_most(ended) {
             return self.refuse(16);
         }
         if !listed(table, mode) {
@@ -134,10 +134,10 @@ impl Machine {
         if mode == self.mode {
             return self.refuse(12);
         }
-        if !clock.by(Tick(CLOCK_LIMIT)) {
+        if !clock.at_most(CLOCK_LIMIT) {
             return self.refuse(13);
         }
-        if !ended.by(clock) {
+        if !ended.at_most(clock) {
             return self.refuse(14);
         }
         self.change(modes::course(whole, self.mode, mode), mode, clock)

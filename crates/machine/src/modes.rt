@@ -1,11 +1,11 @@
 // The modes of a plan, by their numbers.
 use crate::Course;
 use graph::shape::Table;
-use terms::limits::MODES;
+use units::limits::MODES;
 use whole::Whole;
 ghost use mathlib.Core.Path.{_≡_};
 ghost use Prim.Native.Nat.{_≤_};
-ghost use Rattle.terms.specs.Limits.{MODES};
+ghost use Rattle.units.specs.Limits.{MODES};
 ghost use Rattle.planned.specs.Plan.{isListed};
 ghost use Rattle.machine.specs.Steps.{lowestOf, courseOf};
 

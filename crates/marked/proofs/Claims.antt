@@ -7,11 +7,16 @@ use lib.ListN.{length, getD, replicate}
 use Rattle.numbers.specs.Every.{Every}
 use Rattle.numbers.specs.Fraction.{Same}
 use Rattle.numbers.specs.Tab.{getD-replicated}
-use Rattle.terms.specs.Limits.{MODES, ACTORS}
-use Rattle.terms.specs.Refusal.{lineOf, printedOf}
-use Rattle.terms.specs.declared.refusal.Printed.{Printed as Five}
+use Rattle.units.specs.Limits.{MODES, ACTORS}
 use Rattle.units.specs.declared.Tick.{Tick}
 use Rattle.units.specs.Ticks.{tick}
+use Rattle.terms.specs.Refusal.{lineOf, printedOf}
+use Rattle.terms.specs.declared.refusal.Printed.{Printed as Five}
+use Rattle.table.specs.Told.{Outcome, rows, refused, Of, tableOf}
+use Rattle.table.specs.Rows.{Row}
+use Rattle.table.specs.Judge.{readOf}
+use Rattle.table.proofs.Telling.{reads-of}
+use Rattle.table.proofs.Again.{reads-proper}
 use Rattle.graph.specs.declared.shape.Mode.{Mode}
 use Rattle.graph.specs.declared.shape.Table.{Table}
 use Rattle.graph.specs.declared.Verdict.the-variants.{Sound}
@@ -27,11 +32,6 @@ use Rattle.schedule.specs.Reached.{startAt}
 use Rattle.schedule.specs.Model.{startsOf}
 use Rattle.schedule.proofs.Laws.{starts-exist}
 use Rattle.change.specs.Change.{loadAt}
-use Rattle.table.specs.Told.{Outcome, rows, refused, Of, tableOf}
-use Rattle.table.specs.Rows.{Row}
-use Rattle.table.specs.Judge.{readOf}
-use Rattle.table.proofs.Telling.{reads-of}
-use Rattle.table.proofs.Again.{reads-proper}
 use Rattle.whole.specs.declared.Whole.{Whole}
 use Rattle.whole.specs.declared.Answer.{Answer}
 use Rattle.whole.specs.declared.Answer.the-variants.{Planned as IsPlanned, Refused as IsRefused}

@@ -9,14 +9,8 @@ use Rattle.numbers.specs.Sum.{sum}
 use Rattle.numbers.specs.Tab.{tab}
 use Rattle.numbers.specs.Lowest.{lowestOr}
 use Rattle.numbers.specs.Reckoned.{gcdFrom}
-use Rattle.terms.specs.Limits.{MODES, ACTORS}
+use Rattle.units.specs.Limits.{MODES, ACTORS}
 use Rattle.terms.specs.Text.{bytes}
-use Rattle.graph.specs.Rounds.{predsFrom, roundFrom, orderFrom, chosen, giversFrom}
-use Rattle.graph.specs.Counts.{entriesFrom, stays, fedOf, countsFrom, balancesb}
-use Rattle.graph.specs.Lengths.{mostFrom, commonFrom, shareFrom}
-use Rattle.graph.specs.Judge.{timedOf, balancedOf, judgeOf}
-use Rattle.channel.specs.Phases.{startOf, sizeOf}
-use Rattle.schedule.specs.Model.{depthFrom, startsFrom, scheduleOf}
 use Rattle.table.specs.Bytes.{classOf}
 use Rattle.table.specs.Digits.{digitOf, digits, written, numberOf, wordLen, ratesFrom, ratesOf}
 use Rattle.table.specs.Judge.{same, actorOf, channelOf, parsedOf, actorListed, channelListed, listed, homesOf, zeros, readFrom, readOf}
@@ -24,6 +18,12 @@ use Rattle.table.specs.Scan.{plainLen, closed, cellOf, pastComma, pastEnd, cell
 use Rattle.table.specs.Told.{tableOf}
 use Rattle.table.specs.Writing.{joined}
 use Rattle.table.proofs.Written.{number-iff}
+use Rattle.graph.specs.Rounds.{predsFrom, roundFrom, orderFrom, chosen, giversFrom}
+use Rattle.graph.specs.Counts.{entriesFrom, stays, fedOf, countsFrom, balancesb}
+use Rattle.graph.specs.Lengths.{mostFrom, commonFrom, shareFrom}
+use Rattle.graph.specs.Judge.{timedOf, balancedOf, judgeOf}
+use Rattle.channel.specs.Phases.{startOf, sizeOf}
+use Rattle.schedule.specs.Model.{depthFrom, startsFrom, scheduleOf}
 use Rattle.printer.specs.Laid.{texts}
 use Rattle.printer.specs.Printed.{five, lineText, planText}
 use Rattle.marked.specs.Lines.{textOf}

@@ -8,12 +8,6 @@ use Rattle.numbers.specs.Sum.{sum}
 use Rattle.numbers.specs.Tab.{tab}
 use Rattle.numbers.specs.Lowest.{lowestOr}
 use Rattle.numbers.specs.Reckoned.{gcdFrom}
-use Rattle.graph.specs.Rounds.{predsFrom, roundFrom, orderFrom, chosen, giversFrom}
-use Rattle.graph.specs.Counts.{entriesFrom, stays, fedOf, countsFrom, balancesb}
-use Rattle.graph.specs.Lengths.{mostFrom, commonFrom, shareFrom}
-use Rattle.graph.specs.Judge.{timedOf, balancedOf, judgeOf}
-use Rattle.channel.specs.Phases.{startOf, sizeOf}
-use Rattle.schedule.specs.Model.{depthFrom, startsFrom, scheduleOf}
 use Rattle.table.specs.Bytes.{classOf}
 use Rattle.table.specs.Decimal.{decimalFrom, decimal}
 use Rattle.table.specs.Digits.{digitOf, digits, written, numberOf, wordLen, ratesFrom, ratesOf}
@@ -21,6 +15,12 @@ use Rattle.table.specs.Judge.{same, actorOf, channelOf, parsedOf, actorListed, 
 use Rattle.table.specs.Scan.{plainLen, closed, cellOf, pastComma, pastEnd, cellsFrom}
 use Rattle.table.specs.Told.{tableOf}
 use Rattle.table.specs.Writing.{joined}
+use Rattle.graph.specs.Rounds.{predsFrom, roundFrom, orderFrom, chosen, giversFrom}
+use Rattle.graph.specs.Counts.{entriesFrom, stays, fedOf, countsFrom, balancesb}
+use Rattle.graph.specs.Lengths.{mostFrom, commonFrom, shareFrom}
+use Rattle.graph.specs.Judge.{timedOf, balancedOf, judgeOf}
+use Rattle.channel.specs.Phases.{startOf, sizeOf}
+use Rattle.schedule.specs.Model.{depthFrom, startsFrom, scheduleOf}
 use Rattle.run.specs.Machine.{refusal}
 use Rattle.printer.specs.Laid.{texts}
 use Rattle.printer.specs.Printed.{lineText}

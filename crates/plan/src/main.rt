@@ -1,6 +1,6 @@
 // Plans the table on standard input, and prints the plan or the refusal.
 use libc::STDIN_FILENO;
-use terms::limits::MOST_BYTES;
+use units::limits::MOST_BYTES;
 
 fn main() {
     let mut text = [0u8; MOST_BYTES + 1];

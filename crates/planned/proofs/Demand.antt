@@ -1,10 +1,10 @@
 -- Demand 3, of every table that is planned. Assumes nothing.
 use Rattle.graph.specs.declared.shape.Table.{Table}
 use Rattle.graph.specs.Proper.{ProperTable}
-use Rattle.run.specs.Demand.{Demand3}
-use Rattle.run.proofs.Demand.{demand-3}
 use Rattle.whole.specs.declared.Whole.{Whole}
 use Rattle.whole.specs.Whole.{Planned}
+use Rattle.run.specs.Demand.{Demand3}
+use Rattle.run.proofs.Demand.{demand-3}
 use Rattle.planned.specs.Plan.{planOf}
 use Rattle.planned.proofs.Sound.{sound}
 

@@ -1,16 +1,17 @@
 -- What a planned mode has: it is ready for a change, and its channels are balanced, fed and given room. Assumes nothing.
 use mathlib.Core.Path.{_≡_, sym, ap, subst, subst₂, _∙_}
 use mathlib.Core.List.{List}
-use Prim.Native.Nat.{ℕ, _+_, _*_, _<_}
+use Prim.Native.Nat.{ℕ, _+_, _*_, _<_, _≤_}
 use native.Mathlib.Omega.{arith}
 use lib.ListN.{getD}
 use Rattle.numbers.specs.Sum.{sum, sum-rounds}
+use Rattle.units.specs.Bounds.{MOST-START}
 use Rattle.units.specs.declared.Tick.{Tick}
 use Rattle.units.specs.declared.Firing.{Firing}
 use Rattle.units.specs.declared.Token.{Token}
 use Rattle.units.specs.Ticks.{tick}
 use Rattle.units.specs.Tokens.{token}
-use Rattle.terms.specs.Period.{firing}
+use Rattle.units.specs.Firings.{firing}
 use Rattle.terms.specs.Rate.{rateOf}
 use Rattle.graph.specs.declared.shape.Mode.{Mode}
 use Rattle.graph.specs.Shape.{channelAt, Active}
@@ -29,7 +30,7 @@ use Rattle.change.specs.Change.{Ready}
 use Rattle.whole.specs.declared.Part.{Part}
 use Rattle.whole.specs.Whole.{ModePlanned, runningOf}
 use Rattle.whole.proofs.Told.{judged-sound, scheduled-times}
-use Rattle.whole.proofs.Bounds.{START-LIMIT, mode-small}
+use Rattle.whole.proofs.Bounds.{mode-small}
 use Rattle.whole.proofs.Running.{mode-ready}
 
 -- the tokens that channel k's producer makes in so many firings, and those that its consumer takes
@@ -43,7 +44,7 @@ pub record Runs (m : Mode) (p : Part) : Type 0 where
   pub ready : Ready (runningOf m p)
   -- the start-up ends at the sink's start, and is not long
   pub sink : tickAt (p .starts) (p .sink) ≡ p .startup
-  pub soon : p .startup .0 < START-LIMIT
+  pub soon : p .startup .0 ≤ MOST-START .0
   -- on each channel, n iterations make as many tokens as they take
   pub balanced : (k : ℕ) → k < m .count → (n : ℕ)
       → madeIn m p k (n * firingsAt (p .firings) (channelAt m k .from) .0) ≡ takenIn m p k (n * firingsAt (p .firings) (channelAt m k .to) .0)
@@ -73,7 +74,7 @@ mode-runs m proper p w =
     (record {
       ready = subst (λ (p : Part). Ready (runningOf m p)) (w .part) (mode-ready m proper p w);
       sink = start (j .sink) (sink-active m j proper (w .judged) (w .sound)) ∙ sym (times .startup);
-      soon = subst (λ (p : Part). p .startup .0 < START-LIMIT) (w .part) (mode-small m p proper w .startup);
+      soon = subst (λ (p : Part). p .startup .0 ≤ MOST-START .0) (w .part) (mode-small m p proper w .startup);
       balanced = λ k h r.
           cycles (producerOf m (j .periods) k) (paced k h .producer) _ (x (channelAt m k .from)) r (ap (λ (q : Firing). q .0) (firings _ (from k h)))
           ∙ ap (λ (v : Token). r * v .0) (n .smallest .balances .even k h)

@@ -2,7 +2,7 @@
 use mathlib.Core.Path.{_≡_, refl, sym, ap, subst, subst₂, _∙_}
 use mathlib.Core.Bool.{Bool, true, false, not, cond, _&&_}
 use mathlib.Core.Logic.{_≢_, _⊎_, inl, inr}
-use Prim.Native.Nat.{ℕ, suc, _+_, _-_, _*_, _^_, _≤_, _<_, zero-le}
+use Prim.Native.Nat.{ℕ, suc, _+_, _-_, _*_, _≤_, _<_, zero-le}
 use native.Mathlib.Omega.{arith}
 use native.Mathlib.Decide.{decLe}
 use borrow.Author.Tests.{eqb-true}
@@ -13,8 +13,9 @@ use Rattle.numbers.specs.Fraction.{AtMost, plus, sum-alike, sum-common, nothing
 use Rattle.numbers.specs.Lowest.{sought, lowest-is, FirstPasses, NonePasses}
 use Rattle.numbers.specs.Sum.{sum-none}
 use Rattle.numbers.specs.declared.fraction.Fraction.{Fraction}
-use Rattle.terms.specs.Limits.{MODES, ACTORS, PROCESSORS}
-use Rattle.terms.specs.Period.{firing}
+use Rattle.units.specs.Bounds.{MOST-START}
+use Rattle.units.specs.Limits.{MODES, ACTORS, PROCESSORS, ITERATION-LIMIT}
+use Rattle.units.specs.Firings.{firing}
 use Rattle.units.specs.declared.Tick.{Tick}
 use Rattle.units.specs.Ticks.{tick}
 use Rattle.graph.specs.declared.shape.Table.{Table}
@@ -22,13 +23,13 @@ use Rattle.graph.specs.Shape.{modeAt, actorAt}
 use Rattle.graph.specs.Proper.{ProperTable}
 use Rattle.change.specs.declared.Running.{Running}
 use Rattle.change.specs.Change.{Changes, Ready, starts-after, actorIn, askedBy as asks, askedOf as asksOf}
+use Rattle.whole.specs.declared.Whole.{Whole}
+use Rattle.whole.specs.Whole.{Listed, changeAt, runningOf, Planned}
+use Rattle.whole.proofs.Running.{listed-some, listed-none}
 use Rattle.run.specs.Plan.{Acts, startup, whole}
 use Rattle.run.specs.Machine.{worst}
 use Rattle.run.proofs.Sound.{Sound, askedOf}
-use Rattle.whole.specs.declared.Whole.{Whole}
-use Rattle.whole.specs.Whole.{Listed, changeAt, runningOf, Planned}
 use Rattle.planned.specs.Plan.{modeOf, partOf, isListed, processorOf, planOf}
-use Rattle.whole.proofs.Running.{listed-some, listed-none}
 use Rattle.planned.proofs.Running.{Runs, mode-runs}
 
 -- the number of a processor
@@ -130,13 +131,13 @@ module _ (t : Table) (w : Whole) (proper : ProperTable t) (planned : Planned t w
   worst-is o l ho hl other = omega (arith, startup-is l hl, ap (λ (s : Tick). s .0) (changes o l ho hl other .worst))
 
   -- start-ups, iterations and offsets are short
-  pub startup-short : (m : ℕ) → T (isListed t m) → startup (planOf t w) m < 2 ^ 32
+  pub startup-short : (m : ℕ) → T (isListed t m) → startup (planOf t w) m ≤ MOST-START .0
   startup-short m h = omega (arith, startup-is m h, runs m h .soon)
 
-  pub iteration-short : (m : ℕ) → T (isListed t m) → planOf t w .iteration m ≤ 2 ^ 24
+  pub iteration-short : (m : ℕ) → T (isListed t m) → planOf t w .iteration m ≤ ITERATION-LIMIT .0
   iteration-short m h = omega (arith, runs m h .ready .iteration)
 
-  pub offset-short : (o l : ℕ) → T (isListed t o) → T (isListed t l) → l ≢ o → planOf t w .offset o l < 2 ^ 32
+  pub offset-short : (o l : ℕ) → T (isListed t o) → T (isListed t l) → l ≢ o → planOf t w .offset o l ≤ MOST-START .0
   offset-short o l ho hl other = omega (arith, changes o l ho hl other .offset .holds .1, runs o ho .soon)
 
   pub sound : Sound (planOf t w)

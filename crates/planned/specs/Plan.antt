@@ -5,18 +5,18 @@ use lib.Dec.{eqb, leb}
 use lib.ListN.{getD, take}
 use Rattle.numbers.specs.Bits.{hasb}
 use Rattle.numbers.specs.Lowest.{lowestOr}
-use Rattle.terms.specs.Limits.{MODES, ACTORS}
-use Rattle.terms.specs.Period.{firing}
-use Rattle.terms.specs.Rate.{rateOf}
+use Rattle.units.specs.Limits.{MODES, ACTORS}
+use Rattle.units.specs.Firings.{firing}
 use Rattle.units.specs.Ticks.{tick}
 use Rattle.units.specs.Tokens.{token}
+use Rattle.terms.specs.Rate.{rateOf}
 use Rattle.graph.specs.declared.shape.Mode.{Mode}
 use Rattle.graph.specs.declared.shape.Table.{Table}
 use Rattle.graph.specs.Shape.{actorAt, channelAt, modeAt}
-use Rattle.run.specs.Plan.{Plan}
 use Rattle.whole.specs.declared.Part.{Part}
 use Rattle.whole.specs.declared.Whole.{Whole}
 use Rattle.whole.specs.Whole.{partAt, changeAt}
+use Rattle.run.specs.Plan.{Plan}
 
 -- mode m, and what is planned of it: the mode with number m stands at place m - 1
 abbrev pub modeOf : Table → ℕ → Mode

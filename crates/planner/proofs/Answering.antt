@@ -4,16 +4,16 @@ use mathlib.Core.List.{List, _++_}
 use Prim.Native.Nat.{ℕ, _+_, _*_, _-_, _<_}
 use native.Mathlib.Omega.{arith}
 use lib.ListN.{length, replicate}
-use Rattle.terms.specs.Limits.{MODES}
+use Rattle.units.specs.Limits.{MODES}
 use Rattle.terms.specs.declared.refusal.Refusal.{Refusal}
-use Rattle.graph.specs.declared.shape.Table.{Table}
-use Rattle.graph.specs.Proper.{ProperTable}
-use Rattle.graph.specs.Shape.{modeAt, emptyTable}
 use Rattle.table.specs.declared.Reading.{Reading}
 use Rattle.table.specs.declared.Answer.{Answer as ReadAnswer}
 use Rattle.table.specs.declared.Answer.the-variants.{Read, Refused as NotRead}
 use Rattle.table.specs.Told.{Outcome as Rows, rows, refused as rows-refused, Of, readingOf, Told}
 use Rattle.table.proofs.Again.{told-one}
+use Rattle.graph.specs.declared.shape.Table.{Table}
+use Rattle.graph.specs.Proper.{ProperTable}
+use Rattle.graph.specs.Shape.{modeAt, emptyTable}
 use Rattle.whole.specs.declared.Whole.{Whole}
 use Rattle.whole.specs.declared.Outcome.{Outcome}
 use Rattle.whole.specs.declared.Answer.{Answer as WholeAnswer}

@@ -9,21 +9,21 @@ use lib.Dec.{eqb, leb}
 use lib.ListN.{length, getD, length-append}
 use borrow.Author.Tests.{leb-true, leb-false, eq-eqb}
 use Rattle.numbers.specs.Bits.{hasb}
-use Rattle.terms.specs.Limits.{MODES, ACTORS, CHANNELS}
+use Rattle.units.specs.Limits.{MODES, ACTORS, CHANNELS}
 use Rattle.terms.specs.Text.{bytes}
 use Rattle.terms.specs.declared.refusal.Printed.{Printed}
+use Rattle.table.specs.Decimal.{decimal}
+use Rattle.table.specs.Writing.{joined}
 use Rattle.graph.specs.Shape.{channelAt, modeAt}
 use Rattle.graph.specs.declared.shape.Mode.{Mode}
 use Rattle.graph.specs.declared.shape.Table.{Table}
-use Rattle.table.specs.Decimal.{decimal}
-use Rattle.table.specs.Writing.{joined}
 use Rattle.change.specs.declared.Timing.{Timing}
 use Rattle.whole.specs.declared.Part.{Part}
 use Rattle.whole.specs.declared.Whole.{Whole}
+use Rattle.whole.specs.Whole.{partAt}
 use Rattle.printer.specs.declared.bytes.Five.{Five}
 use Rattle.printer.specs.Laid.{texts}
 use Rattle.printer.specs.Printed.{lineText, five, actorText, channelText, changeText, actorsText, channelsText, modeText, fromText, changesText, modesText, activeOf, planText, printedText}
-use Rattle.whole.specs.Whole.{partAt}
 use Rattle.printer.specs.Printed.{firingsAt, periodAt, startAt, sizeAt, tokensAt, changeAt, ACTOR-LINE, CHANNEL-LINE, CHANGE-LINE, PRINTED, SmallPart, SmallTiming, Small}
 use Rattle.printer.proofs.Digits.{digits-most}
 

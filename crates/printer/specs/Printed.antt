@@ -3,7 +3,7 @@
 use mathlib.Core.Path.{_≡_}
 use mathlib.Core.Bool.{cond, not, _&&_}
 use mathlib.Core.List.{List, [], _∷_, _++_}
-use Prim.Native.Nat.{ℕ, _+_, _*_, _-_, _^_, _≤_, _<_}
+use Prim.Native.Nat.{ℕ, _+_, _*_, _-_, _≤_, _<_}
 use lib.Dec.{eqb}
 use lib.ListN.{length, getD, replicate}
 use Rattle.numbers.specs.Bits.{hasb}
@@ -13,18 +13,19 @@ use Rattle.units.specs.declared.Tick.{Tick}
 use Rattle.units.specs.declared.Token.{Token}
 use Rattle.units.specs.Ticks.{tick}
 use Rattle.units.specs.Tokens.{token}
-use Rattle.terms.specs.Limits.{MODES, ACTORS, CHANNELS, ITERATION-LIMIT}
-use Rattle.terms.specs.Period.{firing}
+use Rattle.units.specs.Bounds.{MOST-FIRINGS, MOST-CARRIED, MOST-START, MOST-DELAY, MOST-SIZE}
+use Rattle.units.specs.Limits.{MODES, ACTORS, CHANNELS, ITERATION-LIMIT}
+use Rattle.units.specs.Firings.{firing}
 use Rattle.terms.specs.Refusal.{printedOf}
 use Rattle.terms.specs.Text.{bytes}
 use Rattle.terms.specs.declared.refusal.Printed.{Printed}
 use Rattle.terms.specs.declared.refusal.Refusal.{Refusal}
+use Rattle.table.specs.Decimal.{decimal}
+use Rattle.table.specs.Writing.{joined}
 use Rattle.graph.specs.Shape.{channelAt, modeAt}
 use Rattle.graph.specs.declared.shape.Channel.{Channel}
 use Rattle.graph.specs.declared.shape.Mode.{Mode}
 use Rattle.graph.specs.declared.shape.Table.{Table}
-use Rattle.table.specs.Decimal.{decimal}
-use Rattle.table.specs.Writing.{joined}
 use Rattle.change.specs.declared.Timing.{Timing}
 use Rattle.whole.specs.declared.Part.{Part}
 use Rattle.whole.specs.declared.Whole.{Whole}
@@ -131,16 +132,16 @@ pub record SmallPart (M : Mode) (p : Part) : Type 0 where
   pub count : M .count ≤ CHANNELS
   pub from : (k : ℕ) → k < M .count → channelAt M k .from < ACTORS
   pub to : (k : ℕ) → k < M .count → channelAt M k .to < ACTORS
-  pub firings : (i : ℕ) → i < ACTORS → firingsAt p i .0 ≤ ITERATION-LIMIT
-  pub periods : (i : ℕ) → i < ACTORS → periodAt p i .0 ≤ ITERATION-LIMIT
-  pub starts : (i : ℕ) → i < ACTORS → startAt p i .0 < 2 ^ 32
-  pub sizes : (k : ℕ) → k < M .count → sizeAt p k .0 ≤ 2 ^ 49
-  pub tokens : (k : ℕ) → k < M .count → tokensAt p k .0 < 2 ^ 33
+  pub firings : (i : ℕ) → i < ACTORS → firingsAt p i .0 ≤ MOST-FIRINGS .0
+  pub periods : (i : ℕ) → i < ACTORS → periodAt p i .0 ≤ ITERATION-LIMIT .0
+  pub starts : (i : ℕ) → i < ACTORS → startAt p i .0 ≤ MOST-START .0
+  pub sizes : (k : ℕ) → k < M .count → sizeAt p k .0 ≤ MOST-SIZE .0
+  pub tokens : (k : ℕ) → k < M .count → tokensAt p k .0 ≤ MOST-CARRIED .0
 
 pub record SmallTiming (t : Timing) : Type 0 where
-  pub overlap : t .overlap .0 < 2 ^ 32
-  pub offset : t .offset .0 < 2 ^ 32
-  pub worst : t .worst .0 < 2 ^ 33
+  pub overlap : t .overlap .0 ≤ MOST-START .0
+  pub offset : t .offset .0 ≤ MOST-START .0
+  pub worst : t .worst .0 ≤ MOST-DELAY .0
 
 pub record Small (t : Table) (w : Whole) : Type 0 where
   pub parts : (m : ℕ) → m < MODES → SmallPart (modeAt t m) (partAt w m)

@@ -4,10 +4,10 @@ mod lines;
 
 use crate::bytes::Five;
 use graph::shape::Table;
-use terms::limits::ACTORS;
-use terms::limits::CHANNELS;
-use terms::limits::MODES;
 use terms::refusal::Refusal;
+use units::limits::ACTORS;
+use units::limits::CHANNELS;
+use units::limits::MODES;
 use whole::Whole;
 ghost use mathlib.Core.Path.{_≡_};
 ghost use lib.ListN.{length};

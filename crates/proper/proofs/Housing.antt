@@ -13,7 +13,7 @@ use Rattle.numbers.specs.All.{Below}
 use Rattle.numbers.specs.Bits.{bit, Has, has-or-not}
 use Rattle.numbers.specs.Decides.{Decides}
 use Rattle.numbers.specs.Tab.{length-tab, getD-tab, getD-replicated}
-use Rattle.terms.specs.Limits.{MODES, ACTORS}
+use Rattle.units.specs.Limits.{MODES, ACTORS}
 use Rattle.graph.specs.declared.shape.Actor.{Actor}
 use Rattle.graph.specs.declared.shape.Mode.{Mode}
 use Rattle.graph.specs.declared.shape.Table.{Table}

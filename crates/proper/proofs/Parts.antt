@@ -14,7 +14,7 @@ use Rattle.numbers.specs.All.{Below}
 use Rattle.numbers.specs.Decides.{Decides, decides-and, decides-not, decides-eqb}
 use Rattle.numbers.specs.Tab.{getD-replicated}
 use Rattle.units.specs.Ticks.{tick}
-use Rattle.terms.specs.Limits.{PHASES}
+use Rattle.units.specs.Limits.{PHASES}
 use Rattle.graph.specs.declared.shape.Actor.{Actor}
 use Rattle.graph.specs.declared.shape.Channel.{Channel}
 use Rattle.graph.specs.Shape.{noActor, emptyChannel}

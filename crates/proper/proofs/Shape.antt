@@ -10,7 +10,7 @@ use mir.Syntax.{w8}
 use borrow.Author.Needs.{elem-fits-field, length-unmapped}
 use denote.Laws.{Is}
 use denote.Struct.Declared.{row}
-use Rattle.terms.specs.Limits.{MODES, ACTORS, CHANNELS}
+use Rattle.units.specs.Limits.{MODES, ACTORS, CHANNELS}
 use Rattle.graph.specs.declared.shape.Channel.{Channel}
 use Rattle.graph.specs.declared.shape.Mode.{Mode}
 use Rattle.graph.specs.declared.shape.Table.{Table}

@@ -7,7 +7,7 @@ use lib.Dec.{eqb}
 use lib.ListN.{length, getD}
 use Rattle.numbers.specs.Bits.{Has}
 use Rattle.numbers.specs.Tab.{tab}
-use Rattle.terms.specs.Limits.{ACTORS, PHASES, MOST-RATE}
+use Rattle.units.specs.Limits.{ACTORS, PHASES, MOST-RATE}
 use Rattle.graph.specs.declared.shape.Actor.{Actor}
 use Rattle.graph.specs.declared.shape.Mode.{Mode}
 use Rattle.graph.specs.Shape.{noActor, emptyChannel, actorAt, channelAt}
@@ -16,7 +16,7 @@ use Rattle.graph.specs.Proper.{ProperActor, ProperChannel}
 -- an array of rates
 pub record Bytes (rates : List ℕ) : Type 0 where
   pub long : length rates ≡ PHASES
-  pub small : (k : ℕ) → getD rates k 0 ≤ MOST-RATE
+  pub small : (k : ℕ) → getD rates k 0 ≤ MOST-RATE .0
 
 -- place i of a mode has a proper actor, or nobody where actor i is not active
 pub record ActorStands (m : Mode) (i : ℕ) : Type 0 where

@@ -2,16 +2,16 @@
 use bits::has;
 use graph::shape::Actor;
 use graph::shape::Mode;
-use terms::limits::ACTORS;
-use terms::limits::MOST_WCET;
-use terms::limits::PHASES;
-use terms::limits::PROCESSORS;
 use units::Tick;
+use units::limits::ACTORS;
+use units::limits::MOST_WCET;
+use units::limits::PHASES;
+use units::limits::PROCESSORS;
 ghost use mathlib.Core.Path.{_≡_};
 ghost use Prim.Native.Nat.{_≤_};
 ghost use Rattle.numbers.specs.All.{Below};
 ghost use Rattle.numbers.specs.Decides.{Decides};
-ghost use Rattle.terms.specs.Limits.{ACTORS};
+ghost use Rattle.units.specs.Limits.{ACTORS};
 ghost use Rattle.graph.specs.Proper.{ProperActor};
 ghost use Rattle.graph.specs.Shape.{noActor};
 ghost use Rattle.proper.specs.Parts.{ActorStands};
@@ -29,15 +29,15 @@ fn proper_actor(actor: Actor) -> bool
     let wcet = actor.wcet;
     numbered(actor.phases, PHASES)
         & numbered(actor.processor, PROCESSORS)
-        & Tick(1).by(wcet)
-        & wcet.by(Tick(MOST_WCET))
+        & Tick::ONE.at_most(wcet)
+        & wcet.at_most(MOST_WCET)
 }
 
 fn nobody(actor: Actor) -> bool
     ensures { λ r. ⌜ Decides (actor ≡ noActor) r ⌝ }
 {
     let wcet = actor.wcet;
-    (actor.phases == 0) & (actor.processor == 0) & wcet.by(Tick(0))
+    (actor.phases == 0) & (actor.processor == 0) & wcet.at_most(Tick::NONE)
 }
 
 // Whether the active actors are proper, and nobody stands elsewhere.

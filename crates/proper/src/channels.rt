@@ -2,14 +2,14 @@
 use bits::has;
 use graph::shape::Channel;
 use graph::shape::Mode;
-use terms::limits::CHANNELS;
-use terms::limits::PHASES;
+use units::limits::CHANNELS;
+use units::limits::PHASES;
 ghost use mathlib.Core.Path.{_≡_};
 ghost use Prim.Native.Nat.{_≤_};
 ghost use lib.ListN.{length, replicate};
 ghost use Rattle.numbers.specs.All.{Below};
 ghost use Rattle.numbers.specs.Decides.{Decides};
-ghost use Rattle.terms.specs.Limits.{CHANNELS, PHASES};
+ghost use Rattle.units.specs.Limits.{CHANNELS, PHASES};
 ghost use Rattle.graph.specs.Proper.{ProperRates};
 ghost use Rattle.graph.specs.Shape.{emptyChannel};
 ghost use Rattle.proper.specs.Parts.{Bytes, ChannelStands, ChannelLeft};

@@ -1,12 +1,12 @@
 // The processors of the actors across the modes: for each actor its home, 0 where no mode that was gone through has it.
 use graph::shape::Actor;
-use terms::limits::ACTORS;
+use units::limits::ACTORS;
 ghost use mathlib.Core.Path.{_≡_};
 ghost use Prim.Native.Nat.{ℕ, _<_};
 ghost use lib.ListN.{length, getD};
 ghost use Rattle.numbers.specs.All.{Below};
 ghost use Rattle.numbers.specs.Decides.{Decides};
-ghost use Rattle.terms.specs.Limits.{ACTORS};
+ghost use Rattle.units.specs.Limits.{ACTORS};
 ghost use Rattle.proper.specs.Parts.{AtHome, housedOf};
 
 // Whether each actor of a mode that has a home is on it.

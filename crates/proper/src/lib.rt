@@ -5,9 +5,9 @@ mod homes;
 
 use graph::shape::Mode;
 use graph::shape::Table;
-use terms::limits::ACTORS;
-use terms::limits::CHANNELS;
-use terms::limits::MODES;
+use units::limits::ACTORS;
+use units::limits::CHANNELS;
+use units::limits::MODES;
 ghost use Rattle.numbers.specs.Decides.{Decides};
 ghost use Rattle.graph.specs.Proper.{ProperMode, ProperTable};
 

@@ -11,16 +11,17 @@ use lib.Seq.{getD-set-same, getD-set-other}
 use Rattle.numbers.specs.Bits.{hasb, has-decides}
 use Rattle.numbers.specs.Decides.{decides-false}
 use Rattle.numbers.specs.Tab.{is-tab, getD-replicated}
-use Rattle.terms.specs.Limits.{ACTORS, CHANNELS}
+use Rattle.units.specs.Bounds.{MOST-WAIT}
+use Rattle.units.specs.Limits.{ACTORS, CHANNELS}
 use Rattle.units.specs.declared.Tick.{Tick}
-use Rattle.units.specs.Ticks.{tick, laterOf}
+use Rattle.units.specs.Ticks.{tick, greaterTick}
 use Rattle.graph.specs.declared.shape.Mode.{Mode}
 use Rattle.graph.specs.Shape.{channelAt}
 use Rattle.graph.specs.Judged.{ofActors}
 use Rattle.channel.specs.Flow.{Fed}
 use Rattle.channel.specs.Laws.{cycle-p, cycle-c, period-p, start-within, fed-later, fed-earlier}
 use Rattle.schedule.specs.Starts.{producerOf, consumerOf, FedOn, Timely, Starts}
-use Rattle.schedule.specs.Reached.{startAt, toDepth, MOST-WAIT, Asked, Ready, Reached, Fits}
+use Rattle.schedule.specs.Reached.{startAt, toDepth, Asked, Ready, Reached, Fits}
 
 module _ (m : Mode) (ps : List Tick) (ds : List ℕ) (ready : Ready m ps ds) where
   -- no channel leads to depth 0
@@ -40,7 +41,7 @@ module _ (m : Mode) (ps : List Tick) (ds : List ℕ) (ready : Ready m ps ds) whe
   period k h = period-p (producerOf m ps k) (consumerOf m ps k) (ready .paced k h)
 
   -- what a channel asks is not far
-  near : (k : ℕ) → k < m .count → (p s : Tick) → Asked m ps k p s → s .0 ≤ p .0 + MOST-WAIT
+  near : (k : ℕ) → k < m .count → (p s : Tick) → Asked m ps k p s → s .0 ≤ p .0 + MOST-WAIT .0
   near k h p s asked =
       let w = ready .paced k h in
       let a = producerOf m ps k in
@@ -64,7 +65,7 @@ module _ (m : Mode) (ps : List Tick) (ds : List ℕ) (ready : Ready m ps ds) whe
       to = channelAt m k .to
 
       abbrev later : Tick
-      later = laterOf (startAt l to) r
+      later = greaterTick (startAt l to) r
 
       same : startAt (set l to later) to ≡ later
       same = getD-set-same l to later (tick 0) (omega (arith, reached .long, ready .proper .channel k h .to))
@@ -107,7 +108,7 @@ module _ (m : Mode) (ps : List Tick) (ds : List ℕ) (ready : Ready m ps ds) whe
               (reached .least u t (channelAt m k .from)) (t k h)) in
               omega (arith, asks, reached .least u t to))
 
-          within : (i : ℕ) → Dec (i ≡ to) → startAt (set l to later) i .0 ≤ getD ds i 0 * MOST-WAIT
+          within : (i : ℕ) → Dec (i ≡ to) → startAt (set l to later) i .0 ≤ getD ds i 0 * MOST-WAIT .0
           within i (no q) = rw (other i q) (reached .within i)
           within i (yes q) =
               rw (q, same)
@@ -116,7 +117,7 @@ module _ (m : Mode) (ps : List Tick) (ds : List ℕ) (ready : Ready m ps ds) whe
                 near k h _ r asked,
                 reached .within to,
                 reached .within (channelAt m k .from),
-                mul-le-mul-right MOST-WAIT (ready .deeper k h),
+                mul-le-mul-right (MOST-WAIT .0) (ready .deeper k h),
               ))
 
   -- all channels to a depth
@@ -137,7 +138,7 @@ module _ (m : Mode) (ps : List Tick) (ds : List ℕ) (ready : Ready m ps ds) whe
           long = r .long;
           paced = ready .paced;
           fed = reached-starts .timely;
-          within = λ i. omega (arith, r .within i, mul-le-mul-right MOST-WAIT (ready .below i));
+          within = λ i. omega (arith, r .within i, mul-le-mul-right (MOST-WAIT .0) (ready .below i));
         }
 
     -- an actor that is not active has start 0

@@ -1,9 +1,10 @@
 -- What holds of the starts of every mode whose judgement is sound. Assumes nothing.
 use mathlib.Core.Path.{_≡_, subst}
-use Prim.Native.Nat.{ℕ, _-_, _*_, _≤_}
+use Prim.Native.Nat.{ℕ, _≤_}
 use native.Mathlib.Nat.{mul-le-mul-right}
 use native.Mathlib.Omega.{arith}
-use Rattle.terms.specs.Limits.{ACTORS}
+use Rattle.units.specs.Bounds.{MOST-WAIT, MOST-START}
+use Rattle.units.specs.Limits.{ACTORS}
 use Rattle.units.specs.declared.Tick.{Tick}
 use Rattle.graph.specs.declared.shape.Mode.{Mode}
 use Rattle.graph.specs.declared.Verdict.the-variants.{Sound as IsSound}
@@ -12,7 +13,7 @@ use Rattle.graph.specs.Shape.{Active}
 use Rattle.graph.specs.Proper.{ProperMode}
 use Rattle.graph.specs.Judged.{Judged}
 use Rattle.schedule.specs.Starts.{Starts}
-use Rattle.schedule.specs.Reached.{startAt, MOST-WAIT, Reached}
+use Rattle.schedule.specs.Reached.{startAt, Reached}
 use Rattle.schedule.specs.Model.{startsOf}
 use Rattle.schedule.proofs.Sound.{numbers-of}
 use Rattle.schedule.proofs.Finding.{reached-starts}
@@ -36,7 +37,7 @@ module _ (m : Mode) (j : Judgement) (proper : ProperMode m) (judged : Judged m j
     of-found P = subst P (starts-unique m (j .periods) starts-exist starts)
 
     -- no start is later than two iterations of the longest kind for each channel on the longest path
-    pub starts-within : (i : ℕ) → s i .0 ≤ (ACTORS - 1) * MOST-WAIT
+    pub starts-within : (i : ℕ) → s i .0 ≤ MOST-START .0
     starts-within i =
-        of-found (λ t. t i .0 ≤ (ACTORS - 1) * MOST-WAIT)
-        (omega (arith, found .within i, mul-le-mul-right MOST-WAIT (ready m j proper judged sound .below i)))
+        of-found (λ t. t i .0 ≤ MOST-START .0)
+        (omega (arith, found .within i, mul-le-mul-right (MOST-WAIT .0) (ready m j proper judged sound .below i)))

@@ -14,7 +14,7 @@ use Rattle.numbers.specs.Bits.{Has, hasb, has-decides}
 use Rattle.numbers.specs.Decides.{Decides, decides-and, decides-leb, decides-true, decides-false}
 use Rattle.numbers.specs.Lowest.{lowest-none, lowest-is, sought, NonePasses, FirstPasses}
 use Rattle.numbers.specs.Tab.{length-tab, getD-tab}
-use Rattle.terms.specs.Limits.{ACTORS, CHANNELS}
+use Rattle.units.specs.Limits.{ACTORS, CHANNELS}
 use Rattle.units.specs.declared.Tick.{Tick}
 use Rattle.units.specs.Tokens.{token}
 use Rattle.graph.specs.declared.shape.Mode.{Mode}

@@ -9,7 +9,7 @@ use lib.Dec.{ltb}
 use lib.ListN.{getD}
 use Rattle.numbers.specs.Tab.{is-tab}
 use Rattle.numbers.specs.Filled.{Filled, FilledBy}
-use Rattle.terms.specs.Limits.{CHANNELS}
+use Rattle.units.specs.Limits.{CHANNELS}
 use Rattle.units.specs.declared.Tick.{Tick}
 use Rattle.units.specs.declared.Token.{Token}
 use Rattle.units.specs.Tokens.{token}

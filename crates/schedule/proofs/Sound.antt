@@ -13,11 +13,13 @@ use Rattle.numbers.specs.Bits.{bit, Has, hasb, has-decides, has-or-not}
 use Rattle.numbers.specs.Decides.{decides-true, decides-false}
 use Rattle.numbers.specs.Sum.{sum, sum-one}
 use Rattle.numbers.specs.Tab.{length-tab, getD-tab, tab-at}
-use Rattle.terms.specs.Limits.{ACTORS, PHASES, ITERATION-LIMIT}
+use Rattle.units.specs.Bounds.{MOST-CYCLES}
+use Rattle.units.specs.Limits.{ACTORS, PHASES}
 use Rattle.units.specs.declared.Tick.{Tick}
 use Rattle.units.specs.declared.Firing.{Firing}
-use Rattle.units.specs.Ticks.{tick, timesOf}
-use Rattle.terms.specs.Period.{firing, periodOf}
+use Rattle.units.specs.Ticks.{tick, timesTicks}
+use Rattle.units.specs.Firings.{firing}
+use Rattle.terms.specs.Period.{periodOf}
 use Rattle.terms.specs.Rate.{rateOf, rate-in}
 use Rattle.graph.specs.declared.shape.Mode.{Mode}
 use Rattle.graph.specs.declared.Verdict.{Verdict}
@@ -69,7 +71,7 @@ moving phases rates h p =
 
 module _ (m : Mode) (j : Judgement) (proper : ProperMode m) (x : ℕ → ℕ) (acyclic : Cyclic m → ⊥) (n : Numbers m x j) where
   -- a cycle, so many times, is an iteration
-  whole : (i : ℕ) → Active m i → j .iteration ≡ timesOf (timesOf (getD (j .periods) i (tick 0)) (actorAt m i .phases)) (x i)
+  whole : (i : ℕ) → Active m i → j .iteration ≡ timesTicks (x i) (timesTicks (actorAt m i .phases) (getD (j .periods) i (tick 0)))
   whole i a =
       let is : getD (j .periods) i (tick 0) ≡ periodOf (j .iteration) (firingsOf m x i)
       = ap (λ (l : List Tick). getD l i (tick 0)) (n .periods) ∙ at-actor m _ (tick 0) i a in
@@ -136,10 +138,10 @@ module _ (m : Mode) (j : Judgement) (proper : ProperMode m) (x : ℕ → ℕ) (a
         long = ap length (n .firings) ∙ length-tab ACTORS _;
         few = λ i.
             rw (n .firings)
-            (tab-at (λ (q : Firing). q .0 ≤ PHASES * ITERATION-LIMIT) ACTORS _ (firing 0) (omega arith) (λ k l. go k l (hasb (m .active) k) refl) i);
+            (tab-at (λ (q : Firing). q .0 ≤ PHASES * MOST-CYCLES) ACTORS _ (firing 0) (omega arith) (λ k l. go k l (hasb (m .active) k) refl) i);
       }
     where
-      go : (k : ℕ) → k < ACTORS → (b : Bool) → hasb (m .active) k ≡ b → cond b (firingsOf m x k) (firing 0) .0 ≤ PHASES * ITERATION-LIMIT
+      go : (k : ℕ) → k < ACTORS → (b : Bool) → hasb (m .active) k ≡ b → cond b (firingsOf m x k) (firing 0) .0 ≤ PHASES * MOST-CYCLES
       go k l false e = omega arith
       go k l true e =
           let a : Active m k = (l, decides-true (has-decides (m .active) k) e) in

@@ -6,10 +6,10 @@ use lib.Dec.{eqb, ltb}
 use lib.ListN.{set, replicate}
 use Rattle.numbers.specs.Bits.{hasb}
 use Rattle.numbers.specs.Lowest.{lowestOr}
-use Rattle.terms.specs.Limits.{ACTORS}
+use Rattle.units.specs.Limits.{ACTORS}
 use Rattle.units.specs.declared.Tick.{Tick}
 use Rattle.units.specs.declared.Token.{Token}
-use Rattle.units.specs.Ticks.{tick, laterOf}
+use Rattle.units.specs.Ticks.{tick, greaterTick}
 use Rattle.units.specs.Tokens.{token}
 use Rattle.graph.specs.declared.shape.Mode.{Mode}
 use Rattle.graph.specs.declared.Judgement.{Judgement}
@@ -26,7 +26,7 @@ abbrev pub askedOf : Mode → List Tick → ℕ → List Tick → Tick
 askedOf m ps k l = startOf 0 (producerOf m ps k) (startAt l (channelAt m k .from)) (consumerOf m ps k)
 
 abbrev pub withStart : Mode → List Tick → ℕ → List Tick → List Tick
-withStart m ps k l = set l (channelAt m k .to) (laterOf (startAt l (channelAt m k .to)) (askedOf m ps k l))
+withStart m ps k l = set l (channelAt m k .to) (greaterTick (startAt l (channelAt m k .to)) (askedOf m ps k l))
 
 -- the first k channels, at depth d
 unfoldable pub depthFrom : Mode → List Tick → List ℕ → ℕ → List Tick → ℕ → List Tick

@@ -5,13 +5,14 @@ use Prim.Native.Nat.{ℕ, _+_, _*_, _≤_, _<_}
 use lib.ListN.{length, getD}
 use Rattle.numbers.specs.Bits.{Has}
 use Rattle.numbers.specs.Extreme.{Least}
-use Rattle.terms.specs.Limits.{ACTORS, CHANNELS, ITERATION-LIMIT}
+use Rattle.units.specs.Bounds.{MOST-WAIT, MOST-START}
+use Rattle.units.specs.Limits.{ACTORS, CHANNELS}
 use Rattle.units.specs.declared.Tick.{Tick}
 use Rattle.units.specs.Ticks.{tick}
 use Rattle.graph.specs.declared.shape.Mode.{Mode}
 use Rattle.graph.specs.Shape.{channelAt, Active}
 use Rattle.graph.specs.Proper.{ProperMode}
-use Rattle.channel.specs.Flow.{Fed, Paced, MOST-START}
+use Rattle.channel.specs.Flow.{Fed, Paced}
 use Rattle.schedule.specs.declared.Timing.{Timing}
 use Rattle.schedule.specs.declared.Timing.the-variants.{Late as IsLate, OnTime}
 use Rattle.schedule.specs.Starts.{producerOf, consumerOf, FedOn, Timely}
@@ -26,10 +27,6 @@ fromDepth m ds k = getD ds (channelAt m k .from) 0
 
 abbrev pub toDepth : Mode → List ℕ → ℕ → ℕ
 toDepth m ds k = getD ds (channelAt m k .to) 0
-
--- what a channel asks at most beyond the start of its producer: a cycle of each of its actors
-abbrev pub MOST-WAIT : ℕ
-MOST-WAIT = 2 * ITERATION-LIMIT
 
 -- s is the least start that channel k asks of its consumer, where its producer starts at p
 abbrev pub Asked : Mode → List Tick → ℕ → Tick → Tick → Type 0
@@ -50,7 +47,7 @@ pub record Reached (m : Mode) (ps : List Tick) (ds : List ℕ) (d k : ℕ) (l : 
   pub long : length l ≡ ACTORS
   pub fed : (n : ℕ) → n < m .count → toDepth m ds n * CHANNELS + n < d * CHANNELS + k → FedOn m ps (startAt l) n
   pub least : (u : ℕ → Tick) → Timely m ps u → (i : ℕ) → startAt l i .0 ≤ u i .0
-  pub within : (i : ℕ) → startAt l i .0 ≤ getD ds i 0 * MOST-WAIT
+  pub within : (i : ℕ) → startAt l i .0 ≤ getD ds i 0 * MOST-WAIT .0
 
 -- an actor of the set starts later than the tick t; the answer names the lowest, or says that there is none
 abbrev pub Later : List Tick → ℕ → Tick → ℕ → Type 0
@@ -67,4 +64,4 @@ pub record Fits (m : Mode) (ps l : List Tick) : Type 0 where
   pub long : length l ≡ ACTORS
   pub paced : (k : ℕ) → k < m .count → Paced (producerOf m ps k) (consumerOf m ps k)
   pub fed : Timely m ps (startAt l)
-  pub within : (i : ℕ) → startAt l i .0 ≤ MOST-START
+  pub within : (i : ℕ) → startAt l i .0 ≤ MOST-START .0

@@ -7,13 +7,13 @@ use lib.Dec.{ltb}
 use lib.ListN.{length, getD, take, replicate}
 use Rattle.numbers.specs.Extreme.{Least}
 use Rattle.numbers.specs.Tab.{tab}
-use Rattle.terms.specs.Limits.{ACTORS, CHANNELS}
+use Rattle.units.specs.Limits.{ACTORS, CHANNELS}
 use Rattle.units.specs.declared.Tick.{Tick}
 use Rattle.units.specs.declared.Firing.{Firing}
 use Rattle.units.specs.declared.Token.{Token}
 use Rattle.units.specs.Ticks.{tick}
 use Rattle.units.specs.Tokens.{token}
-use Rattle.terms.specs.Period.{firing}
+use Rattle.units.specs.Firings.{firing}
 use Rattle.terms.specs.Rate.{tokensOf}
 use Rattle.graph.specs.declared.shape.Mode.{Mode}
 use Rattle.graph.specs.declared.Judgement.{Judgement}

@@ -4,10 +4,10 @@ mod starts;
 
 use graph::Judgement;
 use graph::shape::Mode;
-use terms::limits::ACTORS;
-use terms::limits::CHANNELS;
 use units::Tick;
 use units::Token;
+use units::limits::ACTORS;
+use units::limits::CHANNELS;
 ghost use mathlib.Core.Path.{_≡_};
 ghost use Rattle.graph.specs.declared.Verdict.the-variants.{Sound};
 ghost use Rattle.graph.specs.Proper.{ProperMode};
@@ -35,10 +35,10 @@ fn refused(actor: usize) -> Timetable
 {
     Timetable {
         timing: Timing::Late(actor),
-        startup: Tick(0),
-        starts: [Tick(0); ACTORS],
-        sizes: [Token(0); CHANNELS],
-        tokens: [Token(0); CHANNELS],
+        startup: Tick::NONE,
+        starts: [Tick::NONE; ACTORS],
+        sizes: [Token::NONE; CHANNELS],
+        tokens: [Token::NONE; CHANNELS],
     }
 }
 

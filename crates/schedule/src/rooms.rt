@@ -4,22 +4,23 @@ use channel::size;
 use graph::shape::Actor;
 use graph::shape::Channel;
 use graph::shape::Mode;
-use terms::limits::ACTORS;
-use terms::limits::CHANNELS;
-use terms::limits::PHASES;
 use terms::rate;
 use units::Firing;
 use units::Tick;
 use units::Token;
+use units::limits::ACTORS;
+use units::limits::CHANNELS;
+use units::limits::PHASES;
 ghost use mathlib.Core.Path.{_≡_};
 ghost use Prim.Native.Nat.{_*_, _≤_};
 ghost use lib.ListN.{length, take};
-ghost use Rattle.terms.specs.Limits.{PHASES, ITERATION-LIMIT};
+ghost use Rattle.units.specs.Bounds.{MOST-CYCLES, MOST-START};
+ghost use Rattle.units.specs.Limits.{PHASES};
 ghost use Rattle.units.specs.Tokens.{token};
 ghost use Rattle.terms.specs.Rate.{tokensOf};
 ghost use Rattle.graph.specs.Proper.{ProperMode};
 ghost use Rattle.graph.specs.Lengths.{Few};
-ghost use Rattle.channel.specs.Flow.{Fed, IsSize, Paced, MOST-START};
+ghost use Rattle.channel.specs.Flow.{Fed, IsSize, Paced};
 ghost use Rattle.schedule.specs.Starts.{givesOf, takesOf};
 ghost use Rattle.schedule.specs.Scheduled.{Sizes, ofChannels, tokensOn};
 ghost use Rattle.schedule.specs.Reached.{startAt, Fits};
@@ -34,7 +35,7 @@ fn room(
     taken: Tick,
     next: Tick,
 ) -> Token
-    requires { ⌜ Paced (givesOf channel maker made) (takesOf channel taker taken) × Fed (givesOf channel maker made) start (takesOf channel taker taken) next × (start .0 ≤ MOST-START) × (next .0 ≤ MOST-START) ⌝ }
+    requires { ⌜ Paced (givesOf channel maker made) (takesOf channel taker taken) × Fed (givesOf channel maker made) start (takesOf channel taker taken) next × (start .0 ≤ MOST-START .0) × (next .0 ≤ MOST-START .0) ⌝ }
     ensures { λ r. ⌜ IsSize (givesOf channel maker made) start (takesOf channel taker taken) next r ⌝ }
 {
     let production = channel.production;
@@ -60,7 +61,7 @@ pub(crate) fn sizes_of(
     requires { ⌜ Fits mode periods starts ⌝ }
     ensures { λ r. ⌜ Sizes mode periods (startAt starts) r ⌝ }
 {
-    let mut sizes = [Token(0); CHANNELS];
+    let mut sizes = [Token::NONE; CHANNELS];
     for k in 0..mode.count {
         let channel = mode.channels[k];
         let from = channel.from;
@@ -80,7 +81,7 @@ pub(crate) fn sizes_of(
 
 // What so many firings of a producer make.
 fn made(phases: usize, rates: [u8; PHASES], firings: Firing) -> Token
-    requires { ⌜ (phases ≤ PHASES) × (length rates ≡ PHASES) × (firings .0 ≤ PHASES * ITERATION-LIMIT) ⌝ }
+    requires { ⌜ (phases ≤ PHASES) × (length rates ≡ PHASES) × (firings .0 ≤ PHASES * MOST-CYCLES) ⌝ }
     ensures { λ r. ⌜ r ≡ tokensOf (take phases rates) firings ⌝ }
 {
     rate::tokens(&rates[..phases], firings)
@@ -90,7 +91,7 @@ pub(crate) fn tokens_of(mode: Mode, firings: [Firing; ACTORS]) -> [Token; CHANNE
     requires { ⌜ ProperMode mode × Few firings ⌝ }
     ensures { λ r. ⌜ r ≡ ofChannels mode (tokensOn mode firings) (token 0) ⌝ }
 {
-    let mut tokens = [Token(0); CHANNELS];
+    let mut tokens = [Token::NONE; CHANNELS];
     for k in 0..mode.count {
         let channel = mode.channels[k];
         let from = channel.from;

@@ -6,21 +6,22 @@ use channel::least_start;
 use graph::shape::Actor;
 use graph::shape::Channel;
 use graph::shape::Mode;
-use terms::limits::ACTORS;
 use units::Tick;
+use units::limits::ACTORS;
 ghost use mathlib.Core.Path.{_≡_};
 ghost use Prim.Native.Nat.{_+_, _≤_};
 ghost use lib.ListN.{length};
 ghost use Rattle.numbers.specs.Extreme.{Least};
-ghost use Rattle.terms.specs.Limits.{ACTORS};
+ghost use Rattle.units.specs.Bounds.{MOST-START};
+ghost use Rattle.units.specs.Limits.{ACTORS};
 ghost use Rattle.units.specs.Ticks.{tick};
-ghost use Rattle.channel.specs.Flow.{Fed, Paced, MOST-START};
+ghost use Rattle.channel.specs.Flow.{Fed, Paced};
 ghost use Rattle.schedule.specs.Starts.{givesOf, takesOf};
 ghost use Rattle.schedule.specs.Reached.{Ready, Reached, TimingIs};
 
 // The least start that a channel asks of its consumer: the periods of its actors, and its producer's start, are given.
 fn asked(channel: Channel, maker: Actor, made: Tick, start: Tick, taker: Actor, taken: Tick) -> Tick
-    requires { ⌜ Paced (givesOf channel maker made) (takesOf channel taker taken) × (start .0 ≤ MOST-START) ⌝ }
+    requires { ⌜ Paced (givesOf channel maker made) (takesOf channel taker taken) × (start .0 ≤ MOST-START .0) ⌝ }
     ensures { λ r. ⌜ Least (λ n. Fed (givesOf channel maker made) start (takesOf channel taker taken) (tick n)) (r .0) ⌝ }
 {
     let production = channel.production;
@@ -63,7 +64,7 @@ fn at_depth(
                 mode.actors[to],
                 periods[to],
             );
-            starts[to] = starts[to].later(start);
+            starts[to] = starts[to].greater(start);
         }
     }
     starts
@@ -78,7 +79,7 @@ pub(crate) fn starts_of(
     requires { ⌜ Ready mode periods depths ⌝ }
     ensures { λ r. ⌜ Reached mode periods depths ACTORS 0 r ⌝ }
 {
-    let mut starts = [Tick(0); ACTORS];
+    let mut starts = [Tick::NONE; ACTORS];
     for depth in 1..ACTORS {
         let next = at_depth(mode, periods, depths, depth, starts);
         starts = next;
@@ -93,7 +94,7 @@ pub(crate) fn late(starts: [Tick; ACTORS], active: u16, startup: Tick) -> Timing
 {
     for i in 0..ACTORS {
         if has(active, i) {
-            if !starts[i].by(startup) {
+            if !starts[i].at_most(startup) {
                 return Timing::Late(i);
             }
         }

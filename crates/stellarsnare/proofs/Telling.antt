@@ -15,7 +15,6 @@ use Rattle.planner.specs.Plans.{Plans, Prints}
 use Rattle.machine.specs.declared.Machine.{Machine}
 use Rattle.machine.specs.declared.Beginning.{Beginning}
 use Rattle.machine.specs.declared.Beginning.the-variants.{Begun, Refused as NotBegun}
-use Rattle.machine.specs.declared.Reply.{Reply}
 use Rattle.machine.specs.declared.Reply.the-variants.{Accepted as Granted, Refused as NotGranted}
 use Rattle.machine.specs.declared.Answer.{Answer as Asked}
 use Rattle.machine.specs.Answers.{Begins, Answers}

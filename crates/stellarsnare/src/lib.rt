@@ -81,10 +81,10 @@ pub extern "C" fn stellarsnare_request(
 {
     let from = Machine {
         mode: machine[0],
-        started: Tick(machine[1]),
-        ended: Tick(machine[2]),
+        started: Tick::of(machine[1]),
+        ended: Tick::of(machine[2]),
     };
-    let answer = from.request(words, mode, Tick(clock));
+    let answer = from.request(words, mode, Tick::of(clock));
     let reply = answer.reply;
     match reply {
         Reply::Accepted(wait) => {

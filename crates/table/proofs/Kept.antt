@@ -2,7 +2,7 @@
 use mathlib.Core.Path.{_≡_, refl, sym, ap, subst, _∙_}
 use mathlib.Core.List.{List, [], _∷_, _++_, List·Memᴰ·head, List·Memᴰ·tail}
 use mathlib.Core.Logic.{_⊎_, inl, inr}
-use Prim.Native.Nat.{ℕ, zero, suc, _+_, _-_, _≤_, _<_}
+use Prim.Native.Nat.{ℕ, zero, suc, _-_, _≤_, _<_}
 use native.Mathlib.Numerals.{sub-one}
 use native.Mathlib.Omega.{arith}
 use native.Mathlib.Decide.{ℕ-discrete}
@@ -10,7 +10,7 @@ use lib.ListN.{length, getD, take, replicate, length-set, length-take, length-ap
 use lib.Seq.{getD-set-same}
 use Rattle.numbers.specs.Every.{Every}
 use Rattle.numbers.specs.Bits.{bit, Has, has-adding, has-or-not}
-use Rattle.terms.specs.Limits.{MODES, ACTORS, CHANNELS, PHASES, MOST-RATE}
+use Rattle.units.specs.Limits.{MODES, ACTORS, CHANNELS, PHASES, MOST-RATE}
 use Rattle.graph.specs.declared.shape.Actor.{Actor}
 use Rattle.graph.specs.declared.shape.Channel.{Channel}
 use Rattle.graph.specs.declared.shape.Mode.{Mode}
@@ -98,7 +98,7 @@ proper-rates : (xs : List ℕ) → Rates xs → length xs ≤ PHASES → (Every 
 proper-rates xs r h n =
     record {
       long = length-padded xs;
-      small = λ k. rw (getD-padded xs k h) (every-at (λ x. x ≤ MOST-RATE) xs (omega arith) (r .1) k);
+      small = λ k. rw (getD-padded xs k h) (every-at (λ x. x ≤ MOST-RATE .0) xs (omega arith) (r .1) k);
       behind = λ k l. getD-padded xs k h ∙ List·getD-eq-default xs 0 l;
       some = let (k, l) = some-rate xs n in (k, rw (getD-padded xs k h) l);
     }

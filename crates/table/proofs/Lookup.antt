@@ -11,7 +11,7 @@ use lib.ListN.{length, getD, length-set, length-replicate, getD-replicate}
 use lib.Seq.{getD-set-same, getD-set-other}
 use borrow.Author.Tests.{eq-eqb, ne-eqb}
 use Rattle.numbers.specs.Bits.{Has, has-adding, bit-zero}
-use Rattle.terms.specs.Limits.{MODES, ACTORS, CHANNELS}
+use Rattle.units.specs.Limits.{MODES, ACTORS, CHANNELS}
 use Rattle.graph.specs.declared.shape.Actor.{Actor}
 use Rattle.graph.specs.declared.shape.Mode.{Mode}
 use Rattle.graph.specs.declared.shape.Table.{Table}

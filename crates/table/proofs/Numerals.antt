@@ -10,7 +10,7 @@ use lib.Dec.{eqb, ltb}
 use lib.ListN.{length, getD, take, drop, set, replicate, drop-of-length-le, length-drop, length-append}
 use lib.Seq.{drop-cons, drop-drop, take-append-le}
 use borrow.Author.Tests.{ltb-true, ltb-false, lt-ltb, le-ltb, eq-eqb, ne-eqb}
-use Rattle.terms.specs.Limits.{MOST-RATE, PHASES}
+use Rattle.units.specs.Limits.{MOST-RATE, PHASES}
 use Rattle.table.specs.declared.number.Number.{Number}
 use Rattle.table.specs.declared.number.Number.the-variants.{Is, Bad}
 use Rattle.table.specs.declared.number.Digit.{Digit}
@@ -133,7 +133,7 @@ padded-more values after xs v count c k (inl w) = w .1 ∙ rw (k, c) (padded-set
 padded-more values after xs v count c k (inr w) = w .1 ∙ k ∙ sym (padded-full PHASES xs (v ∷ []) (replicate PHASES 0) (omega (arith, w .0)))
 
 rates-next : (k : ℕ) (t : List ℕ)
-    → ratesFrom (suc k) t ≡ onNumber (numberOf (take (wordLen t) t) 0 MOST-RATE) (λ v. onRest (drop (wordLen t) t) v (λ u. ratesFrom k u)) none
+    → ratesFrom (suc k) t ≡ onNumber (numberOf (take (wordLen t) t) 0 (MOST-RATE .0)) (λ v. onRest (drop (wordLen t) t) v (λ u. ratesFrom k u)) none
 unfolding ratesFrom
 rates-next k t = refl
 
@@ -174,7 +174,7 @@ module _ {s values : List ℕ} {count at : ℕ} (g : Listing s values count at) 
   pub word-in : (at ≤ e) × (e ≤ length s)
   word-in = (omega arith, omega (arith, word-within (drop at s), length-drop at s, g .at-in))
 
-  module _ {y : Number} (f : y ≡ numberOf (take (e - at) (drop at s)) 0 MOST-RATE) where
+  module _ {y : Number} (f : y ≡ numberOf (take (e - at) (drop at s)) 0 (MOST-RATE .0)) where
     turn : ratesOf s ≡ ahead (g .xs) (onNumber y (λ v. onRest (drop e s) v (λ u. ratesFrom (g .k) u)) none)
     turn =
         let d : e - at ≡ wordLen (drop at s) = omega arith in
@@ -185,8 +185,8 @@ module _ {s values : List ℕ} {count at : ℕ} (g : Listing s values count at) 
     listing-bad h = turn ∙ rw h
 
     module _ {v : ℕ} (h : y ≡ Is v) where
-      pub rate-most : v ≤ MOST-RATE
-      rate-most = number-in 0 MOST-RATE (take (e - at) (drop at s)) v (sym h ∙ f) .1
+      pub rate-most : v ≤ MOST-RATE .0
+      rate-most = number-in 0 (MOST-RATE .0) (take (e - at) (drop at s)) v (sym h ∙ f) .1
 
       module _ {after : List ℕ} (came : ((count < PHASES) × (after ≡ set values count v)) ⊎ ((PHASES ≤ count) × (after ≡ values))) where
         now-kept : after ≡ padded (g .xs ++ (v ∷ []))

@@ -9,7 +9,7 @@ use lib.Dec.{eqb}
 use lib.ListN.{length}
 use borrow.Author.Tests.{eqb-true}
 use Rattle.numbers.specs.Every.{Every}
-use Rattle.terms.specs.Limits.{MODES, ACTORS, PHASES, MOST-WCET, PROCESSORS}
+use Rattle.units.specs.Limits.{MODES, ACTORS, PHASES, MOST-WCET, PROCESSORS}
 use Rattle.table.specs.declared.number.Number.{Number}
 use Rattle.table.specs.declared.number.Number.the-variants.{Is, Bad}
 use Rattle.table.specs.declared.row.Kind.the-variants.{Actor, Channel, Bad as Neither}
@@ -117,13 +117,13 @@ module _ {raws cs : List (List ℕ)} (all : All raws cs) (long : length cs ≡ 6
       let (m, e1, f1) = on-number (numberOf (fieldAt raws 1) 1 MODES) _ r e in
       let (a, e2, f2) = on-number (numberOf (fieldAt raws 2) 1 ACTORS) _ r f1 in
       let (p, e3, f3) = on-number (numberOf (fieldAt raws 3) 1 PHASES) _ r f2 in
-      let (w, e4, f4) = on-number (numberOf (fieldAt raws 4) 1 MOST-WCET) _ r f3 in
+      let (w, e4, f4) = on-number (numberOf (fieldAt raws 4) 1 (MOST-WCET .0)) _ r f3 in
       let (c, e5, f5) = on-number (numberOf (fieldAt raws 5) 1 PROCESSORS) _ r f4 in
       let is : actor m a p w c ≡ r = cc in
       let n1 = number-at 1 1 MODES m e1 in
       let n2 = number-at 2 1 ACTORS a e2 in
       let n3 = number-at 3 1 PHASES p e3 in
-      let n4 = number-at 4 1 MOST-WCET w e4 in
+      let n4 = number-at 4 1 (MOST-WCET .0) w e4 in
       let n5 = number-at 5 1 PROCESSORS c e5 in
       let k0 : fieldAt cs 0 ≡ actorWord = word-iff (all-at all 0) actorWord actor-plain .0 k in
       subst (λ (s : Row). Says cs s) is
@@ -184,7 +184,7 @@ module _ {raws cs : List (List ℕ)} (all : All raws cs) (long : length cs ≡ 6
         number-found 1 1 MODES m (at 1) (h .0),
         number-found 2 1 ACTORS a (at 2) (h .1),
         number-found 3 1 PHASES p (at 3) (h .2),
-        number-found 4 1 MOST-WCET w (at 4) (h .3),
+        number-found 4 1 (MOST-WCET .0) w (at 4) (h .3),
         number-found 5 1 PROCESSORS c (at 5) (h .4),
       )
   parsed-found (channel m f t ps qs) s =

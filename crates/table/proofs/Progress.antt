@@ -4,11 +4,12 @@ use mathlib.Core.Bool.{Bool, true, false, not, cond}
 use mathlib.Core.List.{List, [], _∷_, map}
 use Prim.Native.Nat.{ℕ, zero, suc, _+_, _-_, _≤_, _<_}
 use native.Mathlib.Omega.{arith}
-use lib.Dec.{eqb, leb}
+use lib.Dec.{leb}
 use lib.ListN.{length, getD, set, drop, length-drop, drop-of-length-le}
 use lib.Seq.{set-getD}
 use borrow.Author.Tests.{eq-eqb, ne-eqb, lt-ltb, le-ltb, leb-false}
-use Rattle.terms.specs.Limits.{MODES, ACTORS, MOST-BYTES, CHANNELS}
+use Rattle.numbers.specs.Bits.{hasb}
+use Rattle.units.specs.Limits.{MODES, ACTORS, MOST-BYTES, CHANNELS}
 use Rattle.graph.specs.declared.shape.Table.{Table}
 use Rattle.graph.specs.declared.shape.Mode.{Mode}
 use Rattle.graph.specs.Shape.{modeAt, actorAt, emptyTable, withMode, withActor, withChannel}
@@ -20,7 +21,6 @@ use Rattle.table.specs.declared.row.Line.{Line}
 use Rattle.table.specs.Rows.{Row, actor, channel, InRange}
 use Rattle.table.specs.Told.{rows, refused, tableOf, readingOf, Told}
 use Rattle.table.specs.Scan.{Cells, got, bad, cellsFrom, bytesOf, RecordIs, Good}
-use Rattle.numbers.specs.Bits.{hasb}
 use Rattle.table.specs.Judge.{Parsed, row, none, parsedOf, lineOf, byKind, suitsb, actorListed, channelListed, actorb, wayOf, Listing, listed, homesOf, judged, onParsed, readFrom, readOf}
 use Rattle.table.proofs.Records.{RecordedAt, cells-recorded}
 use Rattle.table.proofs.Parsed.{parsed-says}

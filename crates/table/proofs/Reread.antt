@@ -6,7 +6,7 @@ use native.Mathlib.Omega.{arith}
 use lib.ListN.{length}
 use borrow.Author.Tests.{ne-eqb, le-ltb, lt-ltb}
 use Rattle.numbers.specs.Every.{Every}
-use Rattle.terms.specs.Limits.{MOST-BYTES}
+use Rattle.units.specs.Limits.{MOST-BYTES}
 use Rattle.table.specs.declared.bytes.Class.the-variants.{Text}
 use Rattle.table.specs.Bytes.{classOf}
 use Rattle.table.specs.Grammar.{plain, Record, one, more, Begins, ended}

@@ -16,7 +16,7 @@ use lib.Seq.{length-take-le, take-suc, append-snoc, set-at, getD-take, getD-drop
 use borrow.Author.Tests.{eqb-true, eqb-false, eq-eqb, ne-eqb}
 use Rattle.numbers.specs.Every.{Every}
 use Rattle.numbers.specs.Bits.{bit, Has, adding, has-adding, has-or-not, bit-zero, bit-ext}
-use Rattle.terms.specs.Limits.{MODES, ACTORS, CHANNELS, PHASES, MOST-RATE}
+use Rattle.units.specs.Limits.{MODES, ACTORS, CHANNELS, PHASES, MOST-RATE}
 use Rattle.graph.specs.declared.shape.Actor.{Actor}
 use Rattle.graph.specs.declared.shape.Channel.{Channel}
 use Rattle.graph.specs.declared.shape.Mode.{Mode}
@@ -138,7 +138,7 @@ module _ (M : Mode) (g : ProperMode M) where
       )
 
 -- the rates that are written of a list in memory are in range, are as many as the phases, and are not all 0
-small-taken : (p : ℕ) (xs : List ℕ) → ((k : ℕ) → getD xs k 0 ≤ MOST-RATE) → Every (λ x. x ≤ MOST-RATE) (take p xs)
+small-taken : (p : ℕ) (xs : List ℕ) → ((k : ℕ) → getD xs k 0 ≤ MOST-RATE .0) → Every (λ x. x ≤ MOST-RATE .0) (take p xs)
 small-taken zero xs h = tt
 small-taken (suc p) [] h = tt
 small-taken (suc p) (x ∷ xs) h = (h 0, small-taken p xs (λ k. h (suc k)))

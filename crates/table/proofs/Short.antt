@@ -9,7 +9,7 @@ use lib.Dec.{ltb, eqb}
 use lib.ListN.{length, take, length-take, length-append}
 use borrow.Author.Tests.{ltb-false, eqb-true}
 use Rattle.numbers.specs.Bits.{bit}
-use Rattle.terms.specs.Limits.{MOST-BYTES, MODES, ACTORS, CHANNELS, PHASES}
+use Rattle.units.specs.Limits.{MOST-BYTES, MODES, ACTORS, CHANNELS, PHASES}
 use Rattle.graph.specs.declared.shape.Mode.{Mode}
 use Rattle.graph.specs.declared.shape.Table.{Table}
 use Rattle.graph.specs.Shape.{actorAt, channelAt, modeAt}

@@ -9,7 +9,7 @@ use native.Mathlib.Omega.{arith}
 use lib.Dec.{eqb, ltb}
 use lib.ListN.{length, length-append}
 use borrow.Author.Tests.{eqb-true, eqb-false, ltb-true, ltb-false, eq-eqb, ne-eqb, lt-ltb, le-ltb}
-use Rattle.terms.specs.Limits.{MOST-BYTES}
+use Rattle.units.specs.Limits.{MOST-BYTES}
 use Rattle.table.specs.Grammar.{Begins, ended, last}
 use Rattle.table.specs.Rows.{Row, InRange, contents}
 use Rattle.table.specs.Told.{Outcome, refused, After, done, refused1, refused2, refused3, refused4, refused5, next, Of, wrong-length, right-length}

@@ -11,7 +11,7 @@ use lib.ListN.{length, take, drop, take-append-drop, length-append}
 use lib.Seq.{take-append-seam, drop-append-seam}
 use borrow.Author.Tests.{ltb-true, ltb-false, lt-ltb, le-ltb, eqb-true, eqb-false, ne-eqb}
 use Rattle.numbers.specs.Every.{Every}
-use Rattle.terms.specs.Limits.{MOST-RATE}
+use Rattle.units.specs.Limits.{MOST-RATE}
 use Rattle.table.specs.declared.number.Number.{Number}
 use Rattle.table.specs.declared.number.Number.the-variants.{Is, Bad}
 use Rattle.table.specs.declared.number.Digit.{Digit}
@@ -236,14 +236,14 @@ spaced-more x [] h = absurd (not-suc-le-zero h)
 spaced-more x (y ∷ ys) h = refl
 
 -- what is left after a word of a list: nothing, or a space and more of it
-first-word : (k x : ℕ) (r : List ℕ) → x ≤ MOST-RATE → WordEnd r → ratesFrom (suc k) (decimal x ++ r) ≡ onRest r x (λ u. ratesFrom k u)
+first-word : (k x : ℕ) (r : List ℕ) → x ≤ MOST-RATE .0 → WordEnd r → ratesFrom (suc k) (decimal x ++ r) ≡ onRest r x (λ u. ratesFrom k u)
 unfolding ratesFrom
 first-word k x r h e =
     rw (
       word-run (decimal x) r (all-digits x) e,
       take-append-seam (decimal x) r,
       drop-append-seam (decimal x) r,
-      number-iff (decimal x) 0 MOST-RATE x .1 (refl, omega arith, h),
+      number-iff (decimal x) 0 (MOST-RATE .0) x .1 (refl, omega arith, h),
     )
 
 rates-spaced : (k : ℕ) (xs : List ℕ) → length (spaced xs) < k → Rates xs → ratesFrom k (spaced xs) ≡ rates xs
@@ -260,7 +260,7 @@ abbrev Listed : List ℕ → RateList → Type 0
 Listed t (rates xs) = (t ≡ spaced xs) × Rates xs
 Listed t none = Unit {0}
 
-rest-listed : (t r : List ℕ) (k v : ℕ) → t ≡ decimal v ++ r → v ≤ MOST-RATE → WordEnd r → ((u : List ℕ) → Listed u (ratesFrom k u)) → Listed t (onRest r v (λ u. ratesFrom k u))
+rest-listed : (t r : List ℕ) (k v : ℕ) → t ≡ decimal v ++ r → v ≤ MOST-RATE .0 → WordEnd r → ((u : List ℕ) → Listed u (ratesFrom k u)) → Listed t (onRest r v (λ u. ratesFrom k u))
 unfolding spaced
 rest-listed t [] k v e h w ih = (e ∙ append-nil (decimal v), (omega arith, (h, tt)))
 rest-listed t (b ∷ u) k v e h w ih = go (ratesFrom k u) (ih u)
@@ -275,12 +275,12 @@ rest-listed t (b ∷ u) k v e h w ih = go (ratesFrom k u) (ih u)
 rates-listed : (k : ℕ) (t : List ℕ) → Listed t (ratesFrom k t)
 unfolding ratesFrom
 rates-listed zero t = tt
-rates-listed (suc k) t = go (numberOf (take (wordLen t) t) 0 MOST-RATE) refl (rates-listed k)
+rates-listed (suc k) t = go (numberOf (take (wordLen t) t) 0 (MOST-RATE .0)) refl (rates-listed k)
   where
-    go : (x : Number) → numberOf (take (wordLen t) t) 0 MOST-RATE ≡ x → ((u : List ℕ) → Listed u (ratesFrom k u))
+    go : (x : Number) → numberOf (take (wordLen t) t) 0 (MOST-RATE .0) ≡ x → ((u : List ℕ) → Listed u (ratesFrom k u))
         → Listed t (onNumber x (λ v. onRest (drop (wordLen t) t) v (λ u. ratesFrom k u)) none)
     go (Is v) e ih =
-        let w = number-iff (take (wordLen t) t) 0 MOST-RATE v .0 e in
+        let w = number-iff (take (wordLen t) t) 0 (MOST-RATE .0) v .0 e in
         rest-listed t (drop (wordLen t) t) k v (sym (take-append-drop (wordLen t) t) ∙ ap (λ (s : List ℕ). s ++ drop (wordLen t) t) (w .0)) (w .2) (word-rest t) ih
     go Bad e ih = tt
 

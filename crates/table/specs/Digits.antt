@@ -4,7 +4,7 @@ use mathlib.Core.List.{List, [], _∷_, _++_}
 use Prim.Native.Nat.{ℕ, zero, suc, _+_, _-_, _*_}
 use lib.Dec.{eqb, ltb}
 use lib.ListN.{length, take, drop, replicate}
-use Rattle.terms.specs.Limits.{MOST-RATE, PHASES}
+use Rattle.units.specs.Limits.{MOST-RATE, PHASES}
 use Rattle.table.specs.declared.number.Number.{Number}
 use Rattle.table.specs.declared.number.Number.the-variants.{Is, Bad}
 use Rattle.table.specs.declared.number.Digit.{Digit}
@@ -64,7 +64,7 @@ onRest (b ∷ t) v f = ahead (v ∷ []) (f t)
 -- the rates of a text of fewer than k bytes
 unfoldable pub ratesFrom : ℕ → List ℕ → RateList
 ratesFrom zero t = none
-ratesFrom (suc k) t = onNumber (numberOf (take (wordLen t) t) 0 MOST-RATE) (λ v. onRest (drop (wordLen t) t) v (λ u. ratesFrom k u)) none
+ratesFrom (suc k) t = onNumber (numberOf (take (wordLen t) t) 0 (MOST-RATE .0)) (λ v. onRest (drop (wordLen t) t) v (λ u. ratesFrom k u)) none
 
 unfoldable pub ratesOf : List ℕ → RateList
 ratesOf t = ratesFrom (suc (length t)) t

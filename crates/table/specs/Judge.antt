@@ -5,7 +5,7 @@ use Prim.Native.Nat.{ℕ, zero, suc, _-_}
 use lib.Dec.{eqb, ltb, leb}
 use lib.ListN.{length, getD, set, replicate}
 use Rattle.numbers.specs.Bits.{hasb}
-use Rattle.terms.specs.Limits.{MODES, ACTORS, CHANNELS, PHASES, MOST-BYTES, MOST-WCET, PROCESSORS}
+use Rattle.units.specs.Limits.{MODES, ACTORS, CHANNELS, PHASES, MOST-BYTES, MOST-WCET, PROCESSORS}
 use Rattle.graph.specs.declared.shape.Actor.{Actor as Stage}
 use Rattle.graph.specs.declared.shape.Channel.{Channel as Way}
 use Rattle.graph.specs.declared.shape.Mode.{Mode}
@@ -42,7 +42,7 @@ actorOf raws =
     onNumber (numberOf (fieldAt raws 1) 1 MODES) (λ m.
     onNumber (numberOf (fieldAt raws 2) 1 ACTORS) (λ a.
     onNumber (numberOf (fieldAt raws 3) 1 PHASES) (λ p.
-    onNumber (numberOf (fieldAt raws 4) 1 MOST-WCET) (λ w.
+    onNumber (numberOf (fieldAt raws 4) 1 (MOST-WCET .0)) (λ w.
     onNumber (numberOf (fieldAt raws 5) 1 PROCESSORS) (λ c.
     row (actor m a p w c)) none) none) none) none) none
 

@@ -7,8 +7,8 @@ use Prim.Native.Nat.{ℕ, _+_, _≤_, _<_}
 use lib.Dec.{eqb}
 use lib.ListN.{length}
 use Rattle.numbers.specs.Every.{Every}
+use Rattle.units.specs.Limits.{MODES, ACTORS, CHANNELS, PHASES, MOST-WCET, MOST-RATE, PROCESSORS}
 use Rattle.terms.specs.Text.{bytes}
-use Rattle.terms.specs.Limits.{MODES, ACTORS, CHANNELS, PHASES, MOST-WCET, MOST-RATE, PROCESSORS}
 use Rattle.table.specs.Decimal.{decimal, spaced}
 
 -- `actor,mode,actor,phases,wcet,processor` and `channel,mode,from,to,production,consumption`
@@ -21,11 +21,11 @@ Between least most n = (least ≤ n) × (n ≤ most)
 
 -- a list of rates, one at least
 abbrev pub Rates : List ℕ → Type 0
-Rates xs = (0 < length xs) × Every (λ x. x ≤ MOST-RATE) xs
+Rates xs = (0 < length xs) × Every (λ x. x ≤ MOST-RATE .0) xs
 
 -- the numbers of a row are in their ranges
 abbrev pub InRange : Row → Type 0
-InRange (actor m a p w c) = Between 1 MODES m × Between 1 ACTORS a × Between 1 PHASES p × Between 1 MOST-WCET w × Between 1 PROCESSORS c
+InRange (actor m a p w c) = Between 1 MODES m × Between 1 ACTORS a × Between 1 PHASES p × Between 1 (MOST-WCET .0) w × Between 1 PROCESSORS c
 InRange (channel m f t ps cs) = Between 1 MODES m × Between 1 ACTORS f × Between 1 ACTORS t × Rates ps × Rates cs
 
 -- the words that begin them

@@ -4,7 +4,7 @@ use mathlib.Core.List.{List, [], _∷_, _++_}
 use mathlib.Core.Logic.{_⊎_}
 use Prim.Native.Nat.{ℕ, suc, _-_, _≤_, _<_}
 use lib.ListN.{length, take, replicate}
-use Rattle.terms.specs.Limits.{MOST-BYTES, PHASES}
+use Rattle.units.specs.Limits.{MOST-BYTES, PHASES}
 use Rattle.terms.specs.declared.refusal.Place.the-variants.{Row as AtRow}
 use Rattle.graph.specs.declared.shape.Table.{Table}
 use Rattle.graph.specs.Shape.{modeAt, emptyTable, withActor, withChannel, withMode}

@@ -5,7 +5,7 @@ use Prim.Native.Nat.{ℕ, zero, suc}
 use lib.Dec.{eqb}
 use lib.ListN.{take}
 use Rattle.numbers.specs.Bits.{bit}
-use Rattle.terms.specs.Limits.{MODES, ACTORS}
+use Rattle.units.specs.Limits.{MODES, ACTORS}
 use Rattle.graph.specs.declared.shape.Channel.{Channel}
 use Rattle.graph.specs.declared.shape.Actor.{Actor}
 use Rattle.graph.specs.declared.shape.Mode.{Mode}

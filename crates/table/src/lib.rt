@@ -2,7 +2,7 @@
 ghost use mathlib.Core.Path.{_≡_};
 ghost use Prim.Native.Nat.{_≤_, _<_};
 ghost use lib.ListN.{length};
-ghost use Rattle.terms.specs.Limits.{MOST-BYTES};
+ghost use Rattle.units.specs.Limits.{MOST-BYTES};
 ghost use Rattle.graph.specs.Shape.{emptyTable};
 ghost use Rattle.table.specs.Told.{Told, readingOf, refused as refusedAt};
 
@@ -13,10 +13,10 @@ mod record;
 mod row;
 
 use graph::shape::Table;
-use terms::limits::ACTORS;
-use terms::limits::MOST_BYTES;
 use terms::refusal::Place;
 use terms::refusal::Refusal;
+use units::limits::ACTORS;
+use units::limits::MOST_BYTES;
 
 pub enum Answer {
     Read,

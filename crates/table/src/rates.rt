@@ -5,8 +5,8 @@ ghost use lib.ListN.{length, drop};
 ghost use Rattle.table.specs.Digits.{wordLen, ratesOf, ratesIn, none as noList};
 use crate::number::Number;
 use crate::number::number_of;
-use terms::limits::MOST_RATE;
-use terms::limits::PHASES;
+use units::limits::MOST_RATE;
+use units::limits::PHASES;
 
 // How many rates there are, and the first of them, with 0 behind the last.
 pub(crate) struct Rates {
@@ -45,12 +45,13 @@ pub(crate) fn none() -> Rates
 pub(crate) fn rates_of(s: &[u8]) -> Rates
     ensures { λ r. ⌜ r ≡ ratesIn (ratesOf (now (s .entry))) ⌝ }
 {
+    let most = MOST_RATE.tokens();
     let mut values = [0u8; PHASES];
     let mut count: usize = 0;
     let mut at: usize = 0;
     loop {
         let end = word_end(s, at);
-        let Number::Is(rate) = number_of(&s[at..end], 0, MOST_RATE) else {
+        let Number::Is(rate) = number_of(&s[at..end], 0, most) else {
             return none();
         };
         if count < PHASES {

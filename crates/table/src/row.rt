@@ -3,7 +3,7 @@ ghost use mathlib.Core.Path.{_≡_};
 ghost use mathlib.Core.List.{map};
 ghost use Prim.Native.Nat.{_^_, _<_};
 ghost use Rattle.numbers.specs.Every.{Every};
-ghost use Rattle.terms.specs.Limits.{ACTORS as ACTORS-LIMIT};
+ghost use Rattle.units.specs.Limits.{ACTORS as ACTORS-LIMIT};
 ghost use Rattle.graph.specs.Shape.{noActor as noActorOf, emptyTable};
 ghost use Rattle.table.specs.Scan.{InText, bytesOf};
 ghost use Rattle.table.specs.Digits.{numberOf, ratesOf, ratesIn};
@@ -20,12 +20,12 @@ use graph::shape::Actor;
 use graph::shape::Channel;
 use graph::shape::Mode;
 use graph::shape::Table;
-use terms::limits;
-use terms::limits::ACTORS;
-use terms::limits::CHANNELS;
-use terms::limits::MODES;
-use terms::limits::PHASES;
 use units::Tick;
+use units::limits;
+use units::limits::ACTORS;
+use units::limits::CHANNELS;
+use units::limits::MODES;
+use units::limits::PHASES;
 
 enum Kind {
     Actor,
@@ -49,7 +49,7 @@ fn no_actor() -> Actor
 {
     Actor {
         phases: 0,
-        wcet: Tick(0),
+        wcet: Tick::NONE,
         processor: 0,
     }
 }
@@ -134,7 +134,7 @@ fn actor_line(s: &[u8], cells: [Cell; 6]) -> Line
     let Number::Is(phases) = number_in(s, cells[3], 1, PHASES as u64) else {
         return bad();
     };
-    let Number::Is(wcet) = number_in(s, cells[4], 1, limits::MOST_WCET) else {
+    let Number::Is(wcet) = number_in(s, cells[4], 1, limits::MOST_WCET.ticks()) else {
         return bad();
     };
     let Number::Is(processor) = number_in(s, cells[5], 1, limits::PROCESSORS as u64) else {
@@ -142,7 +142,7 @@ fn actor_line(s: &[u8], cells: [Cell; 6]) -> Line
     };
     let is = Actor {
         phases: phases as usize,
-        wcet: Tick(wcet),
+        wcet: Tick::of(wcet),
         processor: processor as usize,
     };
     Line {

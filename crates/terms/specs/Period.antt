@@ -10,21 +10,20 @@ use Rattle.numbers.specs.Quotient.{RoundedUp}
 use Rattle.numbers.specs.declared.fraction.Fraction.{Fraction}
 use Rattle.units.specs.declared.Tick.{Tick}
 use Rattle.units.specs.declared.Firing.{Firing}
+use Rattle.units.specs.Ticks.{tick, plusTicks, timesTicks}
+use Rattle.units.specs.Firings.{firing}
 use Rattle.terms.specs.declared.period.Firings.{Firings}
 use Rattle.terms.specs.declared.period.Firings.the-variants.{Are, Above}
 use Rattle.terms.specs.declared.period.Length.{Length}
 use Rattle.terms.specs.declared.period.Length.the-variants.{Is, Above as TooLong}
 
--- firing k, and the firing after n
-abbrev pub firing : ℕ → Firing
-firing k = record { 0 = k }
-
+-- the firing after n
 abbrev pub next : Firing → Firing
 next n = firing (n .0 + 1)
 
 -- of an actor with this start and this period, firing n begins at this tick: S + nT
 abbrev pub beginsAt : Tick → Tick → Firing → Tick
-beginsAt start period n = record { 0 = start .0 + n .0 * period .0 }
+beginsAt start period n = plusTicks start (timesTicks (n .0) period)
 
 -- and its output may be taken from this tick on, that tick included: S + (n + 1)T
 abbrev pub endsAt : Tick → Tick → Firing → Tick
@@ -37,6 +36,10 @@ HaveBegun start period by n = First (λ k. beginsAt start period (firing k) .0 �
 -- n firings have ended by the tick, that tick included: those below n, and no others
 abbrev pub HaveEnded : Tick → Tick → Tick → Firing → Type 0
 HaveEnded start period by n = First (λ k. endsAt start period (firing k) .0 ≤ by .0) (n .0)
+
+-- the ticks that q firings of an actor work: wcet times q
+abbrev pub workOf : Tick → Firing → Tick
+workOf wcet q = timesTicks (q .0) wcet
 
 -- the least common multiple of two numbers of firings under a limit: its value where it is within the limit, and otherwise that it is above
 abbrev pub CommonWithin : Firing → Firing → Firing → Firings → Type 0
@@ -54,7 +57,7 @@ IterationWithin l w limit TooLong = (h : Tick) → IterationIs l w h → limit .
 
 -- the period of an actor with q firings in an iteration of h ticks: h / q
 abbrev pub periodOf : Tick → Firing → Tick
-periodOf h q = record { 0 = h .0 / q .0 }
+periodOf h q = tick (h .0 / q .0)
 
 -- a ticks of b, as a fraction
 abbrev pub partOf : Tick → Tick → Fraction

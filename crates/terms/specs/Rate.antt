@@ -10,6 +10,8 @@ use Rattle.numbers.specs.Euclid.{gcd-pos, euclid}
 use Rattle.numbers.specs.Sum.{sum, sum-rounds}
 use Rattle.units.specs.declared.Firing.{Firing}
 use Rattle.units.specs.declared.Token.{Token}
+use Rattle.units.specs.Firings.{firing}
+use Rattle.units.specs.Tokens.{token, timesTokens}
 use Rattle.terms.specs.declared.rate.Meeting.{Meeting}
 
 -- the rate of firing k, by a list that has one rate for each phase and is used cyclically
@@ -18,16 +20,16 @@ rateOf rates k = getD rates (k % length rates) 0
 
 -- the tokens of the first n firings
 abbrev pub tokensOf : List ℕ → Firing → Token
-tokensOf rates n = record { 0 = sum (rateOf rates) (n .0) }
+tokensOf rates n = token (sum (rateOf rates) (n .0))
 
--- the tokens of n cycles that make or take so many each
-abbrev pub times : ℕ → Token → Token
-times n t = record { 0 = n * t .0 }
+-- the firings of n cycles of an actor with so many phases
+abbrev pub cyclesOf : ℕ → ℕ → Firing
+cyclesOf phases n = firing (phases * n)
 
 -- the least numbers at which a consumer takes what a producer makes: r's, and every other pair that does is a multiple of it
 pub record Meets (makers : ℕ) (made taken : Token) (r : Meeting) : Type 0 where
-  pub even : times (r .times * makers) made ≡ times (r .takers) taken
-  pub each : (c y : ℕ) → times (c * makers) made ≡ times y taken → (k : ℕ) × (c ≡ k * r .times) × (y ≡ k * r .takers)
+  pub even : timesTokens (r .times * makers) made ≡ timesTokens (r .takers) taken
+  pub each : (c y : ℕ) → timesTokens (c * makers) made ≡ timesTokens y taken → (k : ℕ) × (c ≡ k * r .times) × (y ≡ k * r .takers)
 
 -- within the first cycle, the rates as they are listed
 pub rate-in : (rates : List ℕ) (k : ℕ) → k < length rates → rateOf rates k ≡ getD rates k 0
@@ -62,8 +64,8 @@ meets-unique makers made taken x y p q =
     dvd-of a k e = subst (λ (n : ℕ). a ∣ n) (sym e) (dvd-mul-left a k)
 
 -- the numbers divided by their greatest common divisor
-pub meets-reduced : (makers g : ℕ) (made taken : Token) → 0 < taken .0 → IsGcd (times makers made .0) (taken .0) g
-    → Meets makers made taken (record { times = taken .0 / g; takers = times makers made .0 / g })
+pub meets-reduced : (makers g : ℕ) (made taken : Token) → 0 < taken .0 → IsGcd (timesTokens makers made .0) (taken .0) g
+    → Meets makers made taken (record { times = taken .0 / g; takers = timesTokens makers made .0 / g })
 meets-reduced makers g made taken pos p =
     record {
       even = λ i. record { 0 = even (makers * made .0) refl (p .left) i };

@@ -12,13 +12,14 @@ use Rattle.units.specs.declared.Tick.{Tick}
 use Rattle.units.specs.declared.Firing.{Firing}
 use Rattle.units.specs.declared.Token.{Token}
 use Rattle.units.specs.Ticks.{tick}
+use Rattle.units.specs.Firings.{firing}
 use Rattle.terms.specs.declared.period.Firings.{Firings}
 use Rattle.terms.specs.declared.period.Firings.the-variants.{Are, Above}
 use Rattle.terms.specs.declared.period.Length.{Length}
 use Rattle.terms.specs.declared.period.Length.the-variants.{Is, Above as TooLong}
 use Rattle.terms.specs.declared.rate.Meeting.{Meeting}
-use Rattle.terms.specs.Period.{firing, CommonWithin, IterationWithin, common-unique, within-unique, iteration-unique}
-use Rattle.terms.specs.Rate.{times, Meets, meets-unique, meets-reduced}
+use Rattle.terms.specs.Period.{CommonWithin, IterationWithin, common-unique, within-unique, iteration-unique}
+use Rattle.terms.specs.Rate.{Meets, meets-unique, meets-reduced}
 
 abbrev pub commonOf : Firing → Firing → Firing → Firings
 commonOf a b limit = cond (leb (lcmOf (a .0) (b .0)) (limit .0)) (Are (firing (lcmOf (a .0) (b .0)))) Above

@@ -1,5 +1,6 @@
-// The words of the planner: the two rules that lead from ticks to firings and from firings to tokens, refusals and limits.
-pub mod limits;
+// The words of the planner: the two rules that lead from ticks to firings and from firings to tokens, places and refusals.
+pub mod pace;
 pub mod period;
+pub mod place;
 pub mod rate;
 pub mod refusal;

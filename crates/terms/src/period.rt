@@ -6,15 +6,15 @@ use numbers::quotient::rounded_up;
 use units::Firing;
 use units::Tick;
 ghost use mathlib.Core.Path.{_≡_};
-ghost use Prim.Native.Nat.{_+_, _^_, _<_};
-ghost use Rattle.terms.specs.Period.{beginsAt, endsAt, CommonWithin, IterationWithin, periodOf, partOf};
+ghost use Prim.Native.Nat.{_^_, _<_};
+ghost use Rattle.terms.specs.Period.{beginsAt, endsAt, workOf, CommonWithin, IterationWithin, periodOf, partOf};
 
 // The tick at which firing n begins.
 pub fn begins(start: Tick, period: Tick, n: Firing) -> Tick
     requires { ⌜ beginsAt start period n .0 < 2 ^ 64 ⌝ }
     ensures { λ r. ⌜ r ≡ beginsAt start period n ⌝ }
 {
-    Tick(start.0 + n.0 * period.0)
+    start.plus(period.times(n.firings()))
 }
 
 // The tick from which the output of firing n may be taken: the end of its period.
@@ -22,7 +22,15 @@ pub fn ends(start: Tick, period: Tick, n: Firing) -> Tick
     requires { ⌜ endsAt start period n .0 < 2 ^ 64 ⌝ }
     ensures { λ r. ⌜ r ≡ endsAt start period n ⌝ }
 {
-    Tick(start.0 + n.0 * period.0 + period.0)
+    begins(start, period, n).plus(period)
+}
+
+// The ticks that so many firings of an actor work: wcet times q.
+pub fn work(wcet: Tick, firings: Firing) -> Tick
+    requires { ⌜ workOf wcet firings .0 < 2 ^ 64 ⌝ }
+    ensures { λ r. ⌜ r ≡ workOf wcet firings ⌝ }
+{
+    wcet.times(firings.firings())
 }
 
 // A number of firings under a limit: its value, or that it is above.
@@ -35,8 +43,8 @@ pub enum Firings {
 pub fn common(a: Firing, b: Firing, limit: Firing) -> Firings
     ensures { λ r. ⌜ CommonWithin a b limit r ⌝ }
 {
-    match lcm(a.0, b.0, limit.0) {
-        Multiple::Is(l) => Firings::Are(Firing(l)),
+    match lcm(a.firings(), b.firings(), limit.firings()) {
+        Multiple::Is(l) => Firings::Are(Firing::of(l)),
         Multiple::Above => Firings::Above,
     }
 }
@@ -52,9 +60,10 @@ pub fn iteration(common: Firing, work: Tick, limit: Tick) -> Length
     requires { ⌜ 0 < common .0 ⌝ }
     ensures { λ r. ⌜ IterationWithin common work limit r ⌝ }
 {
-    let times = rounded_up(work.0, common.0);
-    if times <= limit.0 / common.0 {
-        Length::Is(Tick(common.0 * times))
+    let each = common.firings();
+    let times = rounded_up(work.ticks(), each);
+    if times <= limit.ticks() / each {
+        Length::Is(Tick::of(each * times))
     } else {
         Length::Above
     }
@@ -65,7 +74,7 @@ pub fn period(iteration: Tick, firings: Firing) -> Tick
     requires { ⌜ 0 < firings .0 ⌝ }
     ensures { λ r. ⌜ r ≡ periodOf iteration firings ⌝ }
 {
-    Tick(iteration.0 / firings.0)
+    Tick::of(iteration.ticks() / firings.firings())
 }
 
 // So many ticks of so many.
@@ -73,7 +82,7 @@ pub fn part(ticks: Tick, of: Tick) -> Fraction
     ensures { λ r. ⌜ r ≡ partOf ticks of ⌝ }
 {
     Fraction {
-        over: ticks.0,
-        under: of.0,
+        over: ticks.ticks(),
+        under: of.ticks(),
     }
 }

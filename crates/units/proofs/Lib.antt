@@ -1,2 +1,5 @@
--- What the proofs lean on.
+-- What belongs to no one function.
+mod TicksSettled
+mod FiringsSettled
+mod TokensSettled
 mod Settled

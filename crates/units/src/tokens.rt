@@ -1,77 +1,20 @@
 // Tokens reckoned with tokens.
 use crate::Token;
-use numbers::common::gcd;
 ghost use mathlib.Core.Path.{_≡_};
-ghost use Prim.Native.Nat.{_/_, _^_, _≤_, _<_};
+ghost use Prim.Native.Nat.{_^_, _≤_, _<_};
 ghost use Rattle.numbers.specs.Decides.{Decides};
-ghost use Rattle.numbers.specs.Common.{IsGcd};
-ghost use Rattle.units.specs.Tokens.{moreOf, addedOf, lessOf, foldOf, leftOf};
+ghost use Rattle.units.specs.Tokens.{token, greaterToken, plusTokens, minusTokens, timesTokens, restTokens};
 
 impl Token {
-    // Whether there are at most so many.
-    pub fn within(self, other: Token) -> bool
-        ensures { λ r. ⌜ Decides (self .0 ≤ other .0) r ⌝ }
-    {
-        self.0 <= other.0
-    }
+    pub const NONE: Token = Token(0);
 
-    // The greater of two counts.
-    pub fn more(self, other: Token) -> Token
-        ensures { λ r. ⌜ r ≡ moreOf self other ⌝ }
-    {
-        if self.0 < other.0 {
-            return other;
-        }
-        self
-    }
+    pub const ONE: Token = Token(1);
 
-    // So many tokens, and so many more.
-    pub fn added(self, more: Token) -> Token
-        requires { ⌜ addedOf self more .0 < 2 ^ 64 ⌝ }
-        ensures { λ r. ⌜ r ≡ addedOf self more ⌝ }
+    // So many tokens, as a text or a word has them.
+    pub fn of(n: u64) -> Token
+        ensures { λ r. ⌜ r ≡ token n ⌝ }
     {
-        Token(self.0 + more.0)
-    }
-
-    // So many tokens less; none where there are no more than that.
-    pub fn less(self, taken: Token) -> Token
-        ensures { λ r. ⌜ r ≡ lessOf self taken ⌝ }
-    {
-        if self.0 < taken.0 {
-            return Token(0);
-        }
-        Token(self.0 - taken.0)
-    }
-
-    // So many tokens n times.
-    pub fn fold(self, n: u64) -> Token
-        requires { ⌜ foldOf self n .0 < 2 ^ 64 ⌝ }
-        ensures { λ r. ⌜ r ≡ foldOf self n ⌝ }
-    {
-        Token(n * self.0)
-    }
-
-    // How often so many tokens fit into these, whole.
-    pub fn parts(self, part: Token) -> u64
-        requires { ⌜ 0 < part .0 ⌝ }
-        ensures { λ r. ⌜ r ≡ self .0 / part .0 ⌝ }
-    {
-        self.0 / part.0
-    }
-
-    // The tokens that are then left.
-    pub fn left(self, part: Token) -> Token
-        requires { ⌜ 0 < part .0 ⌝ }
-        ensures { λ r. ⌜ r ≡ leftOf self part ⌝ }
-    {
-        Token(self.0 % part.0)
-    }
-
-    // What two counts have in common: the greatest that fits into both, whole.
-    pub fn common(self, other: Token) -> Token
-        ensures { λ r. ⌜ IsGcd (self .0) (other .0) (r .0) ⌝ }
-    {
-        Token(gcd(self.0, other.0))
+        Token(n)
     }
 
     // The number that is stored and printed of them.
@@ -79,5 +22,56 @@ impl Token {
         ensures { λ r. ⌜ r ≡ self .0 ⌝ }
     {
         self.0
+    }
+
+    // Whether there are at most so many.
+    pub fn at_most(self, other: Token) -> bool
+        ensures { λ r. ⌜ Decides (self .0 ≤ other .0) r ⌝ }
+    {
+        self.0 <= other.0
+    }
+
+    // The greater of two.
+    pub fn greater(self, other: Token) -> Token
+        ensures { λ r. ⌜ r ≡ greaterToken self other ⌝ }
+    {
+        if self.0 < other.0 {
+            return other;
+        }
+        self
+    }
+
+    // So many, and so many more.
+    pub fn plus(self, more: Token) -> Token
+        requires { ⌜ plusTokens self more .0 < 2 ^ 64 ⌝ }
+        ensures { λ r. ⌜ r ≡ plusTokens self more ⌝ }
+    {
+        Token(self.0 + more.0)
+    }
+
+    // So many less; none where there are no more than that.
+    pub fn minus(self, less: Token) -> Token
+        ensures { λ r. ⌜ r ≡ minusTokens self less ⌝ }
+    {
+        if self.0 < less.0 {
+            return Token(0);
+        }
+        Token(self.0 - less.0)
+    }
+
+    // So many, n times.
+    pub fn times(self, n: u64) -> Token
+        requires { ⌜ timesTokens n self .0 < 2 ^ 64 ⌝ }
+        ensures { λ r. ⌜ r ≡ timesTokens n self ⌝ }
+    {
+        Token(n * self.0)
+    }
+
+    // What is left when so many are taken as often as they fit.
+    pub fn rest(self, part: Token) -> Token
+        requires { ⌜ 0 < part .0 ⌝ }
+        ensures { λ r. ⌜ r ≡ restTokens self part ⌝ }
+    {
+        Token(self.0 % part.0)
     }
 }

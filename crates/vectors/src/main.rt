@@ -2,7 +2,7 @@
 // next table are requests, and otherwise the table's plan is printed.
 use asking::call;
 use libc::STDOUT_FILENO;
-use terms::limits::MOST_BYTES;
+use units::limits::MOST_BYTES;
 
 fn is_table(word: &[u8]) -> bool {
     let n = word.len();

@@ -2,7 +2,7 @@
 use mathlib.Core.Path.{_≡_, refl, sym, ap, subst, _∙_}
 use mathlib.Core.Bool.{Bool, true, false, cond}
 use mathlib.Core.List.{List}
-use Prim.Native.Nat.{ℕ, _+_, _*_, _/_, _%_, _^_, _≤_, _<_, zero-le}
+use Prim.Native.Nat.{ℕ, _+_, _*_, _/_, _%_, _≤_, _<_, zero-le}
 use native.Mathlib.Nat.{le-trans, le-of-dvd, div-le-self, mul-le-mul-right}
 use native.Mathlib.Omega.{arith}
 use native.Mathlib.Decide.{decLt}
@@ -14,13 +14,15 @@ use Rattle.numbers.specs.Bits.{hasb, has-decides}
 use Rattle.numbers.specs.Decides.{decides-true}
 use Rattle.numbers.specs.Sum.{sum-most}
 use Rattle.numbers.specs.Tab.{length-tab, tab-at, getD-replicated}
-use Rattle.terms.specs.Limits.{MODES, ACTORS, CHANNELS, PHASES, MOST-RATE, ITERATION-LIMIT}
+use Rattle.units.specs.Bounds.{MOST-FIRINGS, MOST-CARRIED, MOST-START, MOST-DELAY, MOST-SIZE}
+use Rattle.units.specs.Limits.{MODES, ACTORS, CHANNELS, PHASES, MOST-RATE, ITERATION-LIMIT}
 use Rattle.units.specs.declared.Tick.{Tick}
 use Rattle.units.specs.declared.Firing.{Firing}
 use Rattle.units.specs.declared.Token.{Token}
 use Rattle.units.specs.Ticks.{tick}
 use Rattle.units.specs.Tokens.{token}
-use Rattle.terms.specs.Period.{firing, periodOf}
+use Rattle.units.specs.Firings.{firing}
+use Rattle.terms.specs.Period.{periodOf}
 use Rattle.terms.specs.Rate.{rateOf}
 use Rattle.graph.specs.declared.shape.Mode.{Mode}
 use Rattle.graph.specs.declared.shape.Table.{Table}
@@ -30,44 +32,40 @@ use Rattle.graph.specs.Balance.{firingsOf}
 use Rattle.graph.specs.Judged.{ofActors}
 use Rattle.graph.specs.Laws.{iteration-pos, firings-divide}
 use Rattle.channel.specs.Flow.{Paced}
-use Rattle.channel.specs.Bounds.{MOST-SIZE, size-within}
+use Rattle.channel.specs.Bounds.{size-within}
 use Rattle.schedule.specs.Starts.{producerOf, consumerOf}
 use Rattle.schedule.specs.Scheduled.{ofChannels, tokensOn, Sizes}
 use Rattle.schedule.proofs.Sound.{channel-paced}
+use Rattle.schedule.proofs.Laws.{starts-within}
 use Rattle.change.specs.declared.Timing.{Timing}
 use Rattle.whole.specs.declared.Part.{Part}
 use Rattle.whole.specs.declared.Whole.{Whole}
 use Rattle.whole.specs.Whole.{noTiming, emptyPart, partAt, changeAt, Listed, ModePlanned, IsPart, Leads, IsChange, Planned}
 use Rattle.whole.proofs.Told.{judged-sound, scheduled-times}
 use Rattle.whole.proofs.Unique.{listed-or-not, leads-or-not}
-use Rattle.schedule.proofs.Laws.{starts-within}
-
--- starts are below this, in ticks
-abbrev pub START-LIMIT : ℕ
-START-LIMIT = 2 ^ 29
 
 -- the numbers of a mode, at every place
 pub record SmallPart (p : Part) : Type 0 where
   pub source : p .source < ACTORS
   pub sink : p .sink < ACTORS
-  pub iteration : p .iteration .0 ≤ ITERATION-LIMIT
-  pub startup : p .startup .0 < START-LIMIT
+  pub iteration : p .iteration .0 ≤ ITERATION-LIMIT .0
+  pub startup : p .startup .0 ≤ MOST-START .0
   pub firings-long : length (p .firings) ≡ ACTORS
-  pub firings : (i : ℕ) → getD (p .firings) i (firing 0) .0 ≤ ITERATION-LIMIT
+  pub firings : (i : ℕ) → getD (p .firings) i (firing 0) .0 ≤ MOST-FIRINGS .0
   pub periods-long : length (p .periods) ≡ ACTORS
-  pub periods : (i : ℕ) → getD (p .periods) i (tick 0) .0 ≤ ITERATION-LIMIT
+  pub periods : (i : ℕ) → getD (p .periods) i (tick 0) .0 ≤ ITERATION-LIMIT .0
   pub starts-long : length (p .starts) ≡ ACTORS
-  pub starts : (i : ℕ) → getD (p .starts) i (tick 0) .0 < START-LIMIT
+  pub starts : (i : ℕ) → getD (p .starts) i (tick 0) .0 ≤ MOST-START .0
   pub sizes-long : length (p .sizes) ≡ CHANNELS
-  pub sizes : (k : ℕ) → getD (p .sizes) k (token 0) .0 ≤ MOST-SIZE
+  pub sizes : (k : ℕ) → getD (p .sizes) k (token 0) .0 ≤ MOST-SIZE .0
   pub tokens-long : length (p .tokens) ≡ CHANNELS
-  pub tokens : (k : ℕ) → getD (p .tokens) k (token 0) .0 ≤ ITERATION-LIMIT * MOST-RATE
+  pub tokens : (k : ℕ) → getD (p .tokens) k (token 0) .0 ≤ MOST-CARRIED .0
 
 -- and of a change
 pub record SmallTiming (c : Timing) : Type 0 where
-  pub overlap : c .overlap .0 < START-LIMIT
-  pub offset : c .offset .0 < START-LIMIT
-  pub worst : c .worst .0 < 2 * START-LIMIT + ITERATION-LIMIT
+  pub overlap : c .overlap .0 ≤ MOST-START .0
+  pub offset : c .offset .0 ≤ MOST-START .0
+  pub worst : c .worst .0 ≤ MOST-DELAY .0
 
 -- and of a table
 pub record SmallWhole (w : Whole) : Type 0 where
@@ -111,22 +109,22 @@ small-channels P m f z o h = tab-at P CHANNELS _ z o (λ k l. go k (ltb k (m .co
     go k false e = o
 
 -- no rate is above the greatest
-rate-small : (phases : ℕ) (rates : List ℕ) → phases ≤ PHASES → ProperRates phases rates → (n : ℕ) → rateOf (take phases rates) n ≤ MOST-RATE
+rate-small : (phases : ℕ) (rates : List ℕ) → phases ≤ PHASES → ProperRates phases rates → (n : ℕ) → rateOf (take phases rates) n ≤ MOST-RATE .0
 rate-small phases rates h p n = at (n % length (take phases rates))
   where
-    at : (k : ℕ) → getD (take phases rates) k 0 ≤ MOST-RATE
+    at : (k : ℕ) → getD (take phases rates) k 0 ≤ MOST-RATE .0
     at k = go (decLt k phases)
       where
-        go : Dec (k < phases) → getD (take phases rates) k 0 ≤ MOST-RATE
+        go : Dec (k < phases) → getD (take phases rates) k 0 ≤ MOST-RATE .0
         go (yes l) = rw (getD-take phases rates k 0 l) (p .small k)
         go (no l) =
             omega (arith, List·getD-eq-default (take phases rates) 0 {n = k} (omega (arith, l, length-take-le phases rates (omega (arith, h, p .long)))))
 
 sizes-small : (m : Mode) (ps : List Tick) (s : ℕ → Tick) (l : List Token) → ((k : ℕ) → k < m .count → Paced (producerOf m ps k) (consumerOf m ps k))
-    → ((i : ℕ) → s i .0 < START-LIMIT) → Sizes m ps s l → (k : ℕ) → getD l k (token 0) .0 ≤ MOST-SIZE
+    → ((i : ℕ) → s i .0 ≤ MOST-START .0) → Sizes m ps s l → (k : ℕ) → getD l k (token 0) .0 ≤ MOST-SIZE .0
 sizes-small m ps s l paced small sizes k = go (decLt k (m .count)) (decLt k CHANNELS)
   where
-    go : Dec (k < m .count) → Dec (k < CHANNELS) → getD l k (token 0) .0 ≤ MOST-SIZE
+    go : Dec (k < m .count) → Dec (k < CHANNELS) → getD l k (token 0) .0 ≤ MOST-SIZE .0
     go (yes h) d =
         size-within (producerOf m ps k) _ (consumerOf m ps k) _ (paced k h) (omega (arith, small (channelAt m k .from))) (omega (arith, small (channelAt m k .to))) _
         (sizes .size k h)
@@ -140,11 +138,11 @@ mode-small m p proper w =
     let (x, acyclic, n, bears) = judged-sound (w .judged) (w .sound) in
     let (s, starts, never, times) = scheduled-times (w .scheduled) (w .on-time) in
     let pos = iteration-pos m proper x (n .smallest .balances .some) (n .iteration) in
-    let few : (i : ℕ) → Active m i → firingsOf m x i .0 ≤ ITERATION-LIMIT
+    let few : (i : ℕ) → Active m i → firingsOf m x i .0 ≤ MOST-FIRINGS .0
     = λ i a. le-trans (le-of-dvd pos (firings-divide m proper x (n .smallest .balances) (j .iteration) (n .iteration) i a)) (n .within) in
-    let starts-small : (i : ℕ) → s i .0 < START-LIMIT = λ i. omega (arith, starts-within m j proper (w .judged) (w .sound) s starts i) in
-    let firings-small : (i : ℕ) → getD (j .firings) i (firing 0) .0 ≤ ITERATION-LIMIT
-    = λ i. rw (n .firings) (small-actors (λ (q : Firing). q .0 ≤ ITERATION-LIMIT) m (firingsOf m x) (firing 0) zero-le few i) in
+    let starts-small : (i : ℕ) → s i .0 ≤ MOST-START .0 = λ i. omega (arith, starts-within m j proper (w .judged) (w .sound) s starts i) in
+    let firings-small : (i : ℕ) → getD (j .firings) i (firing 0) .0 ≤ MOST-FIRINGS .0
+    = λ i. rw (n .firings) (small-actors (λ (q : Firing). q .0 ≤ MOST-FIRINGS .0) m (firingsOf m x) (firing 0) zero-le few i) in
     subst SmallPart (sym (w .part))
     (record {
       source = n .ends .0 .0 .0;
@@ -155,18 +153,18 @@ mode-small m p proper w =
       firings = firings-small;
       periods-long = ap length (n .periods) ∙ length-tab ACTORS _;
       periods = λ i. rw (n .periods)
-          (small-actors (λ (t : Tick). t .0 ≤ ITERATION-LIMIT) m (λ i. periodOf (j .iteration) (firingsOf m x i)) (tick 0) zero-le (λ i a. le-trans (div-le-self _ _) (n .within)) i);
+          (small-actors (λ (t : Tick). t .0 ≤ ITERATION-LIMIT .0) m (λ i. periodOf (j .iteration) (firingsOf m x i)) (tick 0) zero-le (λ i a. le-trans (div-le-self _ _) (n .within)) i);
       starts-long = ap length (times .starts) ∙ length-tab ACTORS _;
-      starts = λ i. rw (times .starts) (small-actors (λ (t : Tick). t .0 < START-LIMIT) m s (tick 0) (omega arith) (λ i a. starts-small i) i);
+      starts = λ i. rw (times .starts) (small-actors (λ (t : Tick). t .0 ≤ MOST-START .0) m s (tick 0) (omega arith) (λ i a. starts-small i) i);
       sizes-long = times .sizes .long;
       sizes = sizes-small m (j .periods) s (w .timetable .sizes) (channel-paced m j proper x acyclic n) starts-small (times .sizes);
       tokens-long = ap length (times .tokens) ∙ length-tab CHANNELS _;
       tokens = λ k. rw (times .tokens)
-          (small-channels (λ (v : Token). v .0 ≤ ITERATION-LIMIT * MOST-RATE) m (tokensOn m (j .firings)) (token 0) zero-le
+          (small-channels (λ (v : Token). v .0 ≤ MOST-CARRIED .0) m (tokensOn m (j .firings)) (token 0) zero-le
           (λ k h.
           let c = proper .channel k h in
-          le-trans (sum-most _ MOST-RATE _ (λ i l. rate-small _ _ (proper .actor _ (c .from) (c .from-active) .phases) (c .production) i))
-          (mul-le-mul-right MOST-RATE (firings-small (channelAt m k .from)))) k);
+          le-trans (sum-most _ (MOST-RATE .0) _ (λ i l. rate-small _ _ (proper .actor _ (c .from) (c .from-active) .phases) (c .production) i))
+          (mul-le-mul-right (MOST-RATE .0) (firings-small (channelAt m k .from)))) k);
     })
 
 module _ (t : Table) (proper : ProperTable t) where

@@ -7,7 +7,7 @@ use native.Mathlib.Omega.{arith}
 use native.Mathlib.Decide.{ℕ-discrete}
 use lib.ListN.{getD}
 use Rattle.numbers.specs.Tab.{getD-tab}
-use Rattle.terms.specs.Limits.{MODES}
+use Rattle.units.specs.Limits.{MODES}
 use Rattle.terms.specs.declared.refusal.Refusal.{Refusal}
 use Rattle.graph.specs.declared.shape.Mode.{Mode}
 use Rattle.graph.specs.declared.shape.Table.{Table}

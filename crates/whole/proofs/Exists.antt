@@ -8,9 +8,10 @@ use native.Mathlib.Numerals.{add-one}
 use native.Mathlib.Omega.{arith}
 use native.Mathlib.Decide.{ℕ-discrete}
 use lib.ListN.{set}
-use Rattle.terms.specs.Limits.{MODES, LOAD-LIMIT}
+use Rattle.numbers.specs.Filled.{filled-none, filled-set}
+use Rattle.units.specs.Limits.{MODES, LOAD-LIMIT}
+use Rattle.units.specs.Ticks.{greaterTick}
 use Rattle.terms.specs.declared.refusal.Refusal.{Refusal}
-use Rattle.units.specs.Ticks.{laterOf}
 use Rattle.graph.specs.declared.shape.Mode.{Mode}
 use Rattle.graph.specs.declared.shape.Table.{Table}
 use Rattle.graph.specs.declared.Verdict.{Verdict}
@@ -33,7 +34,6 @@ use Rattle.whole.specs.declared.Outcome.{Outcome}
 use Rattle.whole.specs.Whole.{noPart, noTiming, emptyPart, Listed, ModeRefused, by-6, by-7, by-8, by-9, by-10, partOf, ModePlanned, IsPart, Planning, refused, planned}
 use Rattle.whole.specs.Steps.{runningAt, runningsOf, AllReady, Between, ChangeOf, FoundParts, FoundChanges}
 use Rattle.whole.proofs.Told.{judged-refused, scheduled-late}
-use Rattle.numbers.specs.Filled.{filled-none, filled-set}
 use Rattle.whole.proofs.Unique.{listed-or-not}
 use Rattle.whole.proofs.Running.{all-ready}
 use Rattle.whole.proofs.Coming.{plan-comes}
@@ -75,7 +75,7 @@ change-found old new k l ready-old ready-new = go (ℕ-discrete (old .active) 0)
     go (no a) (no b) (yes c) = (noTiming, ((λ x y z. absurd (z c)), (λ n. refl)))
     go (no a) (no b) (no c) =
         let (overlap, offset) = found old new (ready-old a) (ready-new b) refl refl refl in
-        let d = laterOf (overlapOf old new) (offsetFrom LOAD-LIMIT old new) in (
+        let d = greaterTick (overlapOf old new) (offsetFrom LOAD-LIMIT old new) in (
           record { overlap = overlapOf old new; offset = d; worst = worstOf old new d },
           ((λ x y z. record { overlap = overlap; offset = offset; worst = refl }), (λ n. absurd (n (a, b, c)))),
         )

@@ -14,11 +14,13 @@ use Rattle.numbers.specs.Bits.{Has, bit, hasb, has-decides, has-or-not, has-bel
 use Rattle.numbers.specs.Decides.{decides-true}
 use Rattle.numbers.specs.Fraction.{AtMost, sum-alike, nothing}
 use Rattle.numbers.specs.Tab.{length-tab, getD-tab, getD-replicated}
-use Rattle.terms.specs.Limits.{MODES, ACTORS, MOST-WCET, LOAD-LIMIT}
+use Rattle.units.specs.Bounds.{MOST-START}
+use Rattle.units.specs.Limits.{MODES, ACTORS, MOST-WCET, LOAD-LIMIT}
 use Rattle.units.specs.declared.Tick.{Tick}
 use Rattle.units.specs.declared.Firing.{Firing}
 use Rattle.units.specs.Ticks.{tick}
-use Rattle.terms.specs.Period.{firing, periodOf, partOf}
+use Rattle.units.specs.Firings.{firing}
+use Rattle.terms.specs.Period.{periodOf, partOf}
 use Rattle.graph.specs.declared.shape.Mode.{Mode}
 use Rattle.graph.specs.declared.shape.Table.{Table}
 use Rattle.graph.specs.Shape.{modeAt, actorAt, Active, noActor}
@@ -35,7 +37,7 @@ use Rattle.whole.specs.declared.Part.{Part}
 use Rattle.whole.specs.Whole.{noPart, partOf as planOf, Listed, ModePlanned, IsPart, runningOf}
 use Rattle.whole.specs.Steps.{noRunning, idleRunning, runningsOf, AllReady, FoundParts}
 use Rattle.whole.proofs.Told.{judged-sound, scheduled-times}
-use Rattle.whole.proofs.Bounds.{START-LIMIT, mode-small, part-small}
+use Rattle.whole.proofs.Bounds.{mode-small, part-small}
 
 -- a mode with an actor is listed
 pub listed-some : (t : Table) (k : ℕ) → ProperTable t → k < MODES → (modeAt t k .active ≡ 0 → ⊥) → Listed t k
@@ -47,7 +49,7 @@ pub listed-none : (t : Table) (k : ℕ) → Listed t k → modeAt t k .active �
 listed-none t k (l, (i, a)) e = omega (arith, a .1, ap (λ (m : ℕ). bit m i) e, bit-zero i)
 
 module _ (m : Mode) (proper : ProperMode m) where
-  wcet-small : (i : ℕ) → i < ACTORS → actorAt m i .wcet .0 ≤ MOST-WCET
+  wcet-small : (i : ℕ) → i < ACTORS → actorAt m i .wcet .0 ≤ MOST-WCET .0
   wcet-small i l =
       ⊎-elim (λ (h : Has (m .active) i). proper .actor i l h .wcet)
       (λ (z : bit (m .active) i ≡ 0). rw (proper .no-actor i l (λ h. omega arith)) zero-le) (has-or-not (m .active) i)
@@ -93,8 +95,8 @@ module _ (m : Mode) (proper : ProperMode m) where
       = λ i a. ap (λ (l : List Tick). getD l i (tick 0)) (n .periods) ∙ at-actor m _ (tick 0) i a in
       let firings : (i : ℕ) → Active m i → getD (j .firings) i (firing 0) ≡ firingsOf m x i
       = λ i a. ap (λ (l : List Firing). getD l i (firing 0)) (n .firings) ∙ at-actor m _ (firing 0) i a in
-      let startup : w .timetable .startup .0 < START-LIMIT
-      = subst (λ (p : Part). p .startup .0 < START-LIMIT) (w .part) (mode-small m p proper w .startup) in
+      let startup : w .timetable .startup .0 ≤ MOST-START .0
+      = subst (λ (p : Part). p .startup .0 ≤ MOST-START .0) (w .part) (mode-small m p proper w .startup) in
       subst (λ (p : Part). Ready (runningOf m p)) (sym (w .part))
       (record {
         actor = λ i a. proper .actor i (a .0) (a .1);

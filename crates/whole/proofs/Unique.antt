@@ -1,7 +1,7 @@
 -- A table has one outcome only. Assumes nothing.
 use mathlib.Core.Path.{_≡_, refl, sym, ap, ap₂, subst, subst₂, _∙_}
 use mathlib.Core.List.{List}
-use mathlib.Core.Logic.{_⊎_, ⊎-elim}
+use mathlib.Core.Logic.{⊎-elim}
 use Prim.Native.Nat.{ℕ, suc, _+_, _*_, _/_, _%_, _<_, zero-le}
 use native.Mathlib.Omega.{arith}
 use native.Mathlib.Decide.{decLt, ℕ-discrete}
@@ -10,7 +10,7 @@ use lib.Seq.{ext-getD}
 use Rattle.numbers.specs.Bits.{hasb, has-decides}
 use Rattle.numbers.specs.Decides.{decides-true, decides-false}
 use Rattle.numbers.specs.Lowest.{sought}
-use Rattle.terms.specs.Limits.{MODES, ACTORS}
+use Rattle.units.specs.Limits.{MODES, ACTORS}
 use Rattle.terms.specs.declared.refusal.Place.the-variants.{Nowhere, Mode as AtMode, Actor as AtActor, Processor as AtProcessor}
 use Rattle.terms.specs.declared.refusal.Refusal.{Refusal}
 use Rattle.graph.specs.declared.shape.Mode.{Mode}
@@ -27,7 +27,6 @@ use Rattle.schedule.specs.declared.Timetable.{Timetable}
 use Rattle.schedule.specs.Scheduled.{Scheduled, lateBy}
 use Rattle.schedule.proofs.Unique.{scheduled-unique}
 use Rattle.change.specs.Change.{Changes, changes-unique}
-use Rattle.change.specs.declared.Timing.{Timing as Change}
 use Rattle.whole.specs.declared.Part.{Part}
 use Rattle.whole.specs.declared.Whole.{Whole}
 use Rattle.whole.specs.declared.Answer.the-variants.{Refused as IsRefused, Planned as IsPlanned}

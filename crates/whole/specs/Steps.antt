@@ -6,7 +6,7 @@ use lib.ListN.{length, getD}
 use Rattle.numbers.specs.Filled.{Filled}
 use Rattle.numbers.specs.Tab.{tab}
 use Rattle.units.specs.Ticks.{tick}
-use Rattle.terms.specs.Limits.{MODES}
+use Rattle.units.specs.Limits.{MODES}
 use Rattle.graph.specs.declared.shape.Mode.{Mode}
 use Rattle.graph.specs.declared.shape.Table.{Table}
 use Rattle.graph.specs.Shape.{modeAt, emptyMode}

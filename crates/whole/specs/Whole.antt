@@ -5,8 +5,8 @@ use Prim.Native.Nat.{ℕ, suc, _+_, _*_, _<_}
 use lib.ListN.{length, getD, replicate}
 use Rattle.units.specs.Ticks.{tick}
 use Rattle.units.specs.Tokens.{token}
-use Rattle.terms.specs.Limits.{MODES, ACTORS, CHANNELS}
-use Rattle.terms.specs.Period.{firing}
+use Rattle.units.specs.Limits.{MODES, ACTORS, CHANNELS}
+use Rattle.units.specs.Firings.{firing}
 use Rattle.terms.specs.declared.refusal.Place.{Place}
 use Rattle.terms.specs.declared.refusal.Place.the-variants.{Mode as AtMode, Actor as AtActor, Processor as AtProcessor}
 use Rattle.terms.specs.declared.refusal.Refusal.{Refusal}
@@ -25,7 +25,6 @@ use Rattle.change.specs.Work.{preparedOf}
 use Rattle.change.specs.Change.{Changes}
 use Rattle.whole.specs.declared.Part.{Part}
 use Rattle.whole.specs.declared.Whole.{Whole}
-use Rattle.whole.specs.declared.Answer.{Answer}
 use Rattle.whole.specs.declared.Answer.the-variants.{Planned as IsPlanned, Refused as IsRefused}
 use Rattle.whole.specs.declared.Outcome.{Outcome}
 

@@ -6,13 +6,13 @@ use change::change;
 use change::prepare;
 use graph::shape::Actor;
 use graph::shape::Table;
-use terms::limits::ACTORS;
-use terms::limits::MODES;
 use units::Firing;
 use units::Tick;
+use units::limits::ACTORS;
+use units::limits::MODES;
 ghost use mathlib.Core.Path.{_≡_};
 ghost use Prim.Native.Nat.{_*_};
-ghost use Rattle.terms.specs.Limits.{MODES};
+ghost use Rattle.units.specs.Limits.{MODES};
 ghost use Rattle.graph.specs.Proper.{ProperTable};
 ghost use Rattle.change.specs.Change.{Ready};
 ghost use Rattle.whole.specs.Whole.{noTiming};
@@ -23,9 +23,9 @@ pub(crate) fn none() -> Timing
     ensures { λ r. ⌜ r ≡ noTiming ⌝ }
 {
     Timing {
-        overlap: Tick(0),
-        offset: Tick(0),
-        worst: Tick(0),
+        overlap: Tick::NONE,
+        offset: Tick::NONE,
+        worst: Tick::NONE,
     }
 }
 
@@ -35,19 +35,19 @@ fn idle() -> Running
 {
     let actor = Actor {
         phases: 0,
-        wcet: Tick(0),
+        wcet: Tick::NONE,
         processor: 0,
     };
     Running {
         active: 0,
         actors: [actor; ACTORS],
-        iteration: Tick(0),
-        firings: [Firing(0); ACTORS],
-        periods: [Tick(0); ACTORS],
-        starts: [Tick(0); ACTORS],
-        startup: Tick(0),
-        since: [Tick(0); ACTORS],
-        until: [Tick(0); ACTORS],
+        iteration: Tick::NONE,
+        firings: [Firing::NONE; ACTORS],
+        periods: [Tick::NONE; ACTORS],
+        starts: [Tick::NONE; ACTORS],
+        startup: Tick::NONE,
+        since: [Tick::NONE; ACTORS],
+        until: [Tick::NONE; ACTORS],
     }
 }
 

@@ -4,13 +4,13 @@ mod modes;
 
 use change::Timing;
 use graph::shape::Table;
-use terms::limits::ACTORS;
-use terms::limits::CHANNELS;
-use terms::limits::MODES;
 use terms::refusal::Refusal;
 use units::Firing;
 use units::Tick;
 use units::Token;
+use units::limits::ACTORS;
+use units::limits::CHANNELS;
+use units::limits::MODES;
 ghost use mathlib.Core.Path.{_≡_};
 ghost use Rattle.graph.specs.Proper.{ProperTable};
 ghost use Rattle.whole.specs.Whole.{emptyWhole, Planning};

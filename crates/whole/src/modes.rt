@@ -9,14 +9,14 @@ use graph::shape::Table;
 use schedule::Timetable;
 use schedule::Timing;
 use schedule::schedule;
-use terms::limits::ACTORS;
-use terms::limits::CHANNELS;
-use terms::limits::MODES;
 use terms::refusal::Place;
 use terms::refusal::Refusal;
 use units::Firing;
 use units::Tick;
 use units::Token;
+use units::limits::ACTORS;
+use units::limits::CHANNELS;
+use units::limits::MODES;
 ghost use mathlib.Core.Path.{_≡_};
 ghost use Rattle.graph.specs.declared.Verdict.the-variants.{Sound};
 ghost use Rattle.graph.specs.Proper.{ProperMode, ProperTable};
@@ -44,13 +44,13 @@ pub(crate) fn nothing() -> Part
     Part {
         source: 0,
         sink: 0,
-        iteration: Tick(0),
-        startup: Tick(0),
-        firings: [Firing(0); ACTORS],
-        periods: [Tick(0); ACTORS],
-        starts: [Tick(0); ACTORS],
-        sizes: [Token(0); CHANNELS],
-        tokens: [Token(0); CHANNELS],
+        iteration: Tick::NONE,
+        startup: Tick::NONE,
+        firings: [Firing::NONE; ACTORS],
+        periods: [Tick::NONE; ACTORS],
+        starts: [Tick::NONE; ACTORS],
+        sizes: [Token::NONE; CHANNELS],
+        tokens: [Token::NONE; CHANNELS],
     }
 }
 

@@ -28,11 +28,12 @@ returns-3 c =
 
 returns-4 : tie.Need-returns-4
 returns-4 c =
-    let n = c .before .before in
+    let n = c .before .before .before in
     let e = n .before .before in
     let m = e .before .before in
-    read-request _ _ (m .before .before .before .sign-in .ensures) (m .before .before .if1 .left) (m .number-of .ensures) (n .number-of2 .ensures) (not-false _ (e .if2 .left))
-    (not-false _ (c .if3 .left))
+    rw (c .of .ensures)
+    (read-request _ _ (m .before .before .before .sign-in .ensures) (m .before .before .if1 .left) (m .number-of .ensures) (n .number-of2 .ensures) (not-false _ (e .if2 .left))
+    (not-false _ (c .before .if3 .left)))
 
 pub request-of-spec : {M : Type 1} → statement M
 request-of-spec =
@@ -52,4 +53,5 @@ request-of-spec =
     (λ c κs. search needs)
     (λ c κs. search needs)
     returns-3
+    (λ c κs. search needs)
     returns-4)

@@ -3,14 +3,15 @@ use mathlib.Core.Path.{_≡_, ap, sym, subst, _∙_}
 use Prim.Native.Nat.{ℕ, _+_, _/_, _≤_, _<_}
 use native.Mathlib.Nat.{le-trans, le-of-eq}
 use native.Mathlib.Omega.{arith}
+use Rattle.units.specs.Bounds.{MOST-START}
 use Rattle.units.specs.declared.Tick.{Tick}
 use Rattle.units.specs.declared.Token.{Token}
 use Rattle.channel.specs.declared.End.{End}
 use Rattle.channel.specs.declared.pace.Pace.{Pace}
-use Rattle.channel.specs.Flow.{IsSize, Paced, MOST-START, cycleTicks}
+use Rattle.channel.specs.Flow.{IsSize, Paced, cycleTicks}
 use Rattle.channel.specs.Laws.{cycle-pos, size-greatest}
 use Rattle.channel.specs.Phases.{paceOf, cyclesOf}
-use Rattle.channel.specs.Bounds.{Long, MOST-CYCLES, brief-p, brief-c, cycles-most, pace-long, claims-ready, size-from}
+use Rattle.channel.specs.Bounds.{Long, MOST-ADDED, brief-p, brief-c, cycles-most, pace-long, claims-ready, size-from}
 use Rattle.channel.proofs.size.Statement.{statement}
 use Rattle.channel.proofs.size.Tie as tie
 
@@ -18,10 +19,10 @@ use Rattle.channel.proofs.size.Tie as tie
 cycles-are : (p : End) (sp cycle : Tick) {n : ℕ} → cycle ≡ cycleTicks p → n ≡ sp .0 / cycle .0 → n + 2 ≡ cyclesOf p sp
 cycles-are p sp cycle e f = ap (λ (n : ℕ). n + 2) (f ∙ ap (λ (t : Tick). sp .0 / t .0) e)
 
-cycles-fit : (p c : End) (sp cycle : Tick) {n : ℕ} → Paced p c → sp .0 ≤ MOST-START → cycle ≡ cycleTicks p → n ≡ sp .0 / cycle .0 → n + 2 ≤ MOST-CYCLES
+cycles-fit : (p c : End) (sp cycle : Tick) {n : ℕ} → Paced p c → sp .0 ≤ MOST-START .0 → cycle ≡ cycleTicks p → n ≡ sp .0 / cycle .0 → n + 2 ≤ MOST-ADDED
 cycles-fit p c sp cycle h b e f = le-trans (le-of-eq (cycles-are p sp cycle e f)) (cycles-most p sp c h b)
 
-long : (p c : End) (sp : Tick) {w : Pace} → Paced p c → sp .0 ≤ MOST-START → w ≡ paceOf p c (cyclesOf p sp) → Long w
+long : (p c : End) (sp : Tick) {w : Pace} → Paced p c → sp .0 ≤ MOST-START .0 → w ≡ paceOf p c (cyclesOf p sp) → Long w
 long p c sp h b e = subst Long (sym e) (pace-long p sp c h b)
 
 ticks-of-requires : tie.Need-ticks-of-requires

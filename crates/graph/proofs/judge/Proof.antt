@@ -5,7 +5,7 @@ use mathlib.Core.List.{List}
 use Prim.Native.Nat.{ℕ}
 use lib.ListN.{getD}
 use Rattle.numbers.specs.Bits.{size}
-use Rattle.terms.specs.Limits.{ACTORS}
+use Rattle.units.specs.Limits.{ACTORS}
 use Rattle.graph.specs.declared.order.Order.{Order}
 use Rattle.graph.specs.Order.{Ranked}
 use Rattle.graph.specs.Ends.{Ends}

@@ -9,8 +9,8 @@ use native.Mathlib.Omega.{arith}
 use denote.Ref.{now}
 use lib.Dec.{T}
 use Rattle.numbers.specs.Decides.{decides-false}
+use Rattle.units.specs.Limits.{MODES}
 use Rattle.terms.specs.declared.refusal.Refusal.{Refusal}
-use Rattle.terms.specs.Limits.{MODES}
 use Rattle.planned.specs.Plan.{isListed}
 use Rattle.planner.specs.Plans.{Leaves}
 use Rattle.planner.proofs.Leaving.{recalls-decides, recalls-leaves}

@@ -2,10 +2,10 @@
 use borrow.Author.Needs.{needs}
 use Prim.Native.Nat.{_-_, _≤_}
 use native.Mathlib.Omega.{arith}
-use Rattle.terms.specs.Limits.{MODES}
+use Rattle.units.specs.Limits.{MODES}
 use Rattle.graph.specs.Shape.{modeAt}
-use Rattle.printer.specs.Laid.{Laid, texts}
 use Rattle.whole.specs.Whole.{partAt}
+use Rattle.printer.specs.Laid.{Laid, texts}
 use Rattle.printer.specs.Printed.{modeText}
 use Rattle.printer.proofs.Laying.{laid-first, laid-next, laid-last, laid-length, room-next}
 use Rattle.printer.proofs.modes.Statement.{statement}

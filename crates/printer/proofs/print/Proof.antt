@@ -4,7 +4,7 @@ use mathlib.Core.Path.{sym, _∙_}
 use native.Mathlib.Omega.{arith}
 use lib.ListN.{length-map}
 use Rattle.numbers.specs.Tab.{length-tab}
-use Rattle.terms.specs.Limits.{MODES}
+use Rattle.units.specs.Limits.{MODES}
 use Rattle.graph.specs.Shape.{modeAt}
 use Rattle.printer.specs.Laid.{Room, Laid}
 use Rattle.printer.specs.Printed.{planText, changesText, activeOf}

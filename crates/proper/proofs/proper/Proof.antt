@@ -5,7 +5,7 @@ use mathlib.Core.Path.{_≡_, sym, subst}
 use Prim.Native.Nat.{ℕ, _+_, _≤_, _-_}
 use native.Mathlib.Omega.{arith}
 use Rattle.numbers.specs.Decides.{decides-no, decides-true, decides-false}
-use Rattle.terms.specs.Limits.{MODES}
+use Rattle.units.specs.Limits.{MODES}
 use Rattle.graph.specs.Shape.{modeAt}
 use Rattle.graph.specs.Proper.{ProperMode}
 use Rattle.proper.proofs.Housing.{Housed, housed-none, housed-next, at-home-all, housed-decides}

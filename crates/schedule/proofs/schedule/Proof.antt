@@ -3,7 +3,7 @@ use borrow.Author.Needs.{needs}
 use mathlib.Core.Path.{refl, sym, subst}
 use Prim.Native.Nat.{_<_}
 use native.Mathlib.Omega.{arith}
-use Rattle.terms.specs.Limits.{ACTORS}
+use Rattle.units.specs.Limits.{ACTORS}
 use Rattle.schedule.specs.Starts.{Starts}
 use Rattle.schedule.specs.Scheduled.{Scheduled, late, on-time}
 use Rattle.schedule.specs.Reached.{startAt, Ready, TimingIs}

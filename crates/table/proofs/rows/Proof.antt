@@ -1,17 +1,16 @@
 -- table::rows meets its contract. The invariant: the rows before the place were read, and what is told of the text is told of the rest after them. Assumes nothing.
 use borrow.Author.Tests.{not-true, not-false}
 use mathlib.Core.Path.{_≡_, refl, sym, ap, subst, subst₂, _∙_}
-use mathlib.Core.Bool.{false}
 use mathlib.Core.List.{List}
 use mathlib.Core.Logic.{⊎-elim}
 use Prim.Native.Nat.{ℕ, _+_, _-_, _<_}
 use native.Mathlib.Omega.{arith}
 use lib.ListN.{length, getD, set}
 use lib.Seq.{set-getD}
-use Rattle.terms.specs.Limits.{CHANNELS}
+use Rattle.numbers.specs.Bits.{with-is}
+use Rattle.units.specs.Limits.{CHANNELS}
 use Rattle.graph.specs.declared.shape.Mode.{Mode}
 use Rattle.graph.specs.declared.shape.Table.{Table}
-use Rattle.numbers.specs.Bits.{with-is}
 use Rattle.graph.specs.Shape.{modeAt, withMode, withChannel}
 use Rattle.table.specs.declared.Answer.the-variants.{Read}
 use Rattle.table.specs.declared.record.Record.{Record}

@@ -3,7 +3,7 @@ use borrow.Author.Needs.{needs}
 use mathlib.Core.Path.{sym, subst}
 use mathlib.Core.List.{List}
 use Prim.Native.Nat.{_*_}
-use Rattle.terms.specs.Limits.{MODES}
+use Rattle.units.specs.Limits.{MODES}
 use Rattle.change.specs.declared.Running.{Running}
 use Rattle.whole.specs.declared.Answer.{Answer}
 use Rattle.whole.specs.Whole.{Planning, refused, planned}

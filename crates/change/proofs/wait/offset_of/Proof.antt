@@ -4,8 +4,8 @@ use mathlib.Core.Path.{_≡_, refl, sym, ap, ap₂, _∙_}
 use Prim.Native.Nat.{_-_, _*_, _/_, _%_, _≤_}
 use native.Mathlib.Omega.{arith}
 use Rattle.numbers.specs.Extreme.{mostOf, most-next}
-use Rattle.terms.specs.Limits.{ACTORS, LOAD-LIMIT}
-use Rattle.units.specs.Ticks.{tick, laterOf}
+use Rattle.units.specs.Limits.{ACTORS, LOAD-LIMIT}
+use Rattle.units.specs.Ticks.{tick, greaterTick}
 use Rattle.change.specs.Waits.{pairWait}
 use Rattle.change.proofs.Offsets.{since-part, until-part}
 use Rattle.change.proofs.wait.offset_of.Statement.{statement}
@@ -34,7 +34,7 @@ loop-again c =
     let l = t .before .loop in
     let p = c .before .before in (
       omega (arith, t .loop-test .taken),
-      c .later .ensures ∙ ap₂ laterOf (l .inv .1) (rw (p .before .before .before .before .part .ensures, p .part2 .ensures) at (c .before .wait .ensures))
+      c .greater .ensures ∙ ap₂ greaterTick (l .inv .1) (rw (p .before .before .before .before .part .ensures, p .part2 .ensures) at (c .before .wait .ensures))
           ∙ ap tick (sym (most-next (pairWait LOAD-LIMIT (t .before .before .args .t1) (t .before .before .args .t2)) (l .n))),
     )
 

@@ -6,8 +6,8 @@ use Prim.Native.Nat.{_-_, _≤_}
 use native.Mathlib.Omega.{arith}
 use Rattle.numbers.specs.Bits.{has-is}
 use Rattle.numbers.specs.Extreme.{mostOf}
-use Rattle.terms.specs.Limits.{ACTORS}
-use Rattle.units.specs.Ticks.{tick, laterOf}
+use Rattle.units.specs.Limits.{ACTORS}
+use Rattle.units.specs.Ticks.{tick, greaterTick}
 use Rattle.change.specs.Waits.{leadOf}
 use Rattle.change.proofs.Offsets.{lead-both, lead-other}
 use Rattle.change.proofs.wait.overlap_of.Statement.{statement}
@@ -30,7 +30,7 @@ loop-again c =
       omega arith,
       let has = has-is _ _ _ (c .before .has .ensures) in
           ⊎-elim
-          (λ w. w .5 ∙ w .4 .ensures ∙ ap₂ laterOf (l .inv .1) (w .3 .ensures) ∙ ap tick (sym (lead-both (s .t1) (s .t2) (l .i) (has ∙ w .0 .taken))))
+          (λ w. w .5 ∙ w .4 .ensures ∙ ap₂ greaterTick (l .inv .1) (w .3 .ensures) ∙ ap tick (sym (lead-both (s .t1) (s .t2) (l .i) (has ∙ w .0 .taken))))
           (λ w. w .1 ∙ l .inv .1 ∙ ap tick (sym (lead-other (s .t1) (s .t2) (l .i) (has ∙ w .0 .left))))
           (c .if1 .came),
     )

@@ -12,30 +12,30 @@ returns : tie.Need-returns
 returns c = rw (ne-eqb _ _ (c .if1 .taken))
 
 returns-2 : tie.Need-returns-2
-returns-2 c = rw (eq-eqb _ _ (c .before .before .if1 .left), leb-is _ _ _ (c .before .by .ensures) ∙ not-true (c .before .by .result) (c .if2 .taken))
+returns-2 c = rw (eq-eqb _ _ (c .before .before .if1 .left), leb-is _ _ _ (c .before .at-most .ensures) ∙ not-true (c .before .at-most .result) (c .if2 .taken))
 
 returns-3 : tie.Need-returns-3
 returns-3 c =
     let b = c .before .before in
     rw (
       eq-eqb _ _ (b .before .before .if1 .left),
-      leb-is _ _ _ (b .before .by .ensures) ∙ not-false (b .before .by .result) (b .if2 .left),
-      leb-is _ _ _ (c .before .by2 .ensures) ∙ not-true (c .before .by2 .result) (c .if3 .taken),
+      leb-is _ _ _ (b .before .at-most .ensures) ∙ not-false (b .before .at-most .result) (b .if2 .left),
+      leb-is _ _ _ (c .before .at-most2 .ensures) ∙ not-true (c .before .at-most2 .result) (c .if3 .taken),
     )
 
-begins-requires : tie.Need-begins-requires
-begins-requires c κs = let p = c .before .before .before .before .before .before .pre in omega (arith, mul-le-mul (p .1) (p .0))
+work-requires : tie.Need-work-requires
+work-requires c κs = let p = c .before .before .before .before .before .before .pre in omega (arith, mul-le-mul (p .1) (p .0))
 
 returns-4 : tie.Need-returns-4
 returns-4 c =
     let b = c .before .before .before in
-    c .begins .ensures ∙ rw (
+    c .work .ensures ∙ rw (
       eq-eqb _ _ (b .before .before .if1 .left),
-      leb-is _ _ _ (b .before .by .ensures) ∙ not-false (b .before .by .result) (b .if2 .left),
-      leb-is _ _ _ (c .before .before .by2 .ensures) ∙ not-false (c .before .before .by2 .result) (c .before .if3 .left),
+      leb-is _ _ _ (b .before .at-most .ensures) ∙ not-false (b .before .at-most .result) (b .if2 .left),
+      leb-is _ _ _ (c .before .before .at-most2 .ensures) ∙ not-false (c .before .before .at-most2 .result) (c .before .if3 .left),
     )
 
 pub counted-spec : {M : Type 1} → statement M
 counted-spec =
     tie.close
-    (tie.spec returns (λ c κs. search needs) returns-2 (λ c κs. search needs) returns-3 begins-requires returns-4)
+    (tie.spec returns (λ c κs. search needs) returns-2 (λ c κs. search needs) returns-3 work-requires returns-4)

@@ -3,7 +3,7 @@ use borrow.Author.Needs.{needs}
 use Prim.Native.Nat.{_-_}
 use native.Mathlib.Omega.{arith}
 use Rattle.numbers.specs.Filled.{FilledBy, filled-none, filled-set, filled-all}
-use Rattle.terms.specs.Limits.{ACTORS}
+use Rattle.units.specs.Limits.{ACTORS}
 use Rattle.units.specs.Ticks.{tick}
 use Rattle.change.specs.Work.{actorAt, tickAt, workBetween}
 use Rattle.change.proofs.work.untils.Statement.{statement}

@@ -4,8 +4,8 @@ use mathlib.Core.Path.{_≡_, refl, sym, ap, ap₂, _∙_}
 use Prim.Native.Nat.{_-_, _≤_}
 use native.Mathlib.Omega.{arith}
 use Rattle.numbers.specs.Sum.{sum, sum-next}
-use Rattle.terms.specs.Limits.{ACTORS}
-use Rattle.units.specs.Ticks.{tick, plusOf}
+use Rattle.units.specs.Limits.{ACTORS}
+use Rattle.units.specs.Ticks.{tick, plusTicks}
 use Rattle.change.specs.Work.{actorAt, firingsAt, tickAt, countedOf}
 use Rattle.change.proofs.Loads.{work-fits}
 use Rattle.change.proofs.work.work_between.Statement.{statement}
@@ -37,7 +37,7 @@ plus-requires c κs =
 loop-again : tie.Need-loop-again Inv-loop μ-loop
 loop-again c =
     let l = c .before .before .before .before .before .before .loop in
-    (omega arith, c .plus .ensures ∙ ap₂ plusOf (l .inv .1) (c .before .counted .ensures) ∙ ap tick (sym (sum-next _ (l .k))))
+    (omega arith, c .plus .ensures ∙ ap₂ plusTicks (l .inv .1) (c .before .counted .ensures) ∙ ap tick (sym (sum-next _ (l .k))))
 
 returns : tie.Need-returns Inv-loop μ-loop
 returns c = let e : c .before .loop .k ≡ ACTORS = omega arith in rw e at (c .before .loop .inv .1)

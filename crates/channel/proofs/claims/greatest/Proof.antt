@@ -8,8 +8,9 @@ use Rattle.numbers.specs.Extreme.{mostOf, most-next}
 use Rattle.numbers.specs.Sum.{sum}
 use Rattle.units.specs.declared.Tick.{Tick}
 use Rattle.units.specs.declared.Token.{Token}
-use Rattle.units.specs.Tokens.{token, moreOf}
-use Rattle.terms.specs.Period.{firing}
+use Rattle.units.specs.Tokens.{token, greaterToken}
+use Rattle.units.specs.Firings.{firing}
+use Rattle.terms.specs.Period.{endsAt}
 use Rattle.terms.specs.Rate.{tokensOf}
 use Rattle.channel.specs.declared.claims.Hold.{Hold}
 use Rattle.channel.specs.Flow.{ratesOf}
@@ -32,36 +33,43 @@ loop-holds c = (omega arith, refl, refl)
 
 ends-requires : tie.Need-ends-requires Inv-loop μ-loop
 ends-requires c κs =
-    let l = c .before in
-    let t = l .before .before .before .before in
-    omega (arith, t .pre .2, ends-by (t .args .consumer) (l .loop .f) (t .pre .1) (omega arith))
+    let l = c .before .before in
+    let t = l .before .before .before .before .before in
+    rw (c .phases .ensures) (omega (arith, t .pre .2, ends-by (t .args .consumer) (l .loop .f) (t .pre .1) (omega arith)))
+
+ended : (c : tie.After-ends Inv-loop μ-loop)
+    → let t = c .before .before .before .before .before .before .before .before .args in
+    c .ends .result ≡ endsAt (t .start) (t .consumer .period) (firing (c .before .before .before .loop .f))
+ended c =
+    let t = c .before .before .before .before .before .before .before .before .args in
+    c .ends .ensures ∙ ap (endsAt (t .start) (t .consumer .period)) (c .before .phases .ensures)
 
 back-requires : tie.Need-back-requires Inv-loop μ-loop
 back-requires c κs =
-    let l = c .before .before in
-    let t = l .before .before .before .before in (
+    let l = c .before .before .before in
+    let t = l .before .before .before .before .before in (
       t .pre .3,
-      subst₂ (λ (x : Tick) (y : Token). Early x y) (sym (c .ends .ensures)) (sym (l .loop .inv .2))
+      subst₂ (λ (x : Tick) (y : Token). Early x y) (sym (ended c)) (sym (l .loop .inv .2))
           (back-early (t .args .consumer) (l .loop .f) (t .pre .1) (omega arith) (t .args .start) (t .pre .2)),
     )
 
 held-requires : tie.Need-held-requires Inv-loop μ-loop
 held-requires c κs =
-    let l = c .before .before .before in
-    let t = l .before .before .before .before in (
+    let l = c .before .before .before .before in
+    let t = l .before .before .before .before .before in (
       t .pre .0,
-      subst Few (sym (c .back .ensures ∙ ap₂ (backOf (t .args .pace)) (c .before .ends .ensures) (l .loop .inv .2)))
+      subst Few (sym (c .back .ensures ∙ ap₂ (backOf (t .args .pace)) (ended (c .before)) (l .loop .inv .2)))
           (back-few (t .args .pace) _ _ (t .pre .3) (back-early (t .args .consumer) (l .loop .f) (t .pre .1) (omega arith) (t .args .start) (t .pre .2))),
       t .pre .3 .common,
     )
 
 array-read-moved : tie.Need-array-read-moved Inv-loop μ-loop
-array-read-moved c = omega (arith, c .before .before .before .before .before .before .before .before .before .pre .1 .proper .phases)
+array-read-moved c = omega (arith, c .before .before .before .before .before .before .before .before .before .before .before .pre .1 .proper .phases)
 
-added-requires : tie.Need-added-requires Inv-loop μ-loop
-added-requires c κs =
-    let l = c .before .before .before .before .before .before in
-    let t = l .before .before .before .before in
+plus-requires : tie.Need-plus-requires Inv-loop μ-loop
+plus-requires c κs =
+    let l = c .before .before .before .before .before .before .before in
+    let t = l .before .before .before .before .before in
     omega (
       arith,
       tokens-by (t .args .consumer) (t .pre .1 .proper) (l .loop .f) (omega arith),
@@ -74,25 +82,25 @@ loop-again : tie.Need-loop-again Inv-loop μ-loop
 loop-again c =
     let m = c .before .before in
     let b = m .before .before in
-    let l = b .before .before .before in
-    let t = l .before .before .before .before in
+    let l = b .before .before .before .before in
+    let t = l .before .before .before .before .before in
     let a = t .args in
     let claims : ℕ → Hold = λ s. getD (a .claims) s noHold in (
       omega arith,
-      m .more .ensures
-          ∙ ap₂ moreOf (l .loop .inv .1)
+      m .greater .ensures
+          ∙ ap₂ greaterToken (l .loop .inv .1)
           (m .before .held .ensures
-          ∙ ap (heldOf claims (a .n) (a .pace .common)) (b .back .ensures ∙ ap₂ (backOf (a .pace)) (b .before .ends .ensures) (l .loop .inv .2)))
-          ∙ (λ i. token (sym (most-next (λ f. heldOf claims (a .n) (a .pace .common) (backAt (a .pace) (a .consumer) (a .start) f) .0) (l .loop .f)) i)),
-      tokens-next (a .consumer) (t .pre .1 .proper) (l .loop .f) (omega arith) (l .loop .inv .2) (c .before .moved .ensures) (c .added .ensures),
+          ∙ ap (heldOf claims (a .n) (a .pace .step .tokens)) (b .back .ensures ∙ ap₂ (backOf (a .pace)) (ended (b .before)) (l .loop .inv .2)))
+          ∙ (λ i. token (sym (most-next (λ f. heldOf claims (a .n) (a .pace .step .tokens) (backAt (a .pace) (a .consumer) (a .start) f) .0) (l .loop .f)) i)),
+      tokens-next (a .consumer) (t .pre .1 .proper) (l .loop .f) (omega arith) (l .loop .inv .2) (c .before .moved .ensures) (c .plus .ensures),
     )
 
 returns : tie.Need-returns Inv-loop μ-loop
 returns c =
-    let a = c .before .before .before .before .before .args in
+    let a = c .before .before .before .before .before .before .args in
     let e : c .before .loop .f ≡ a .consumer .phases = omega arith in
     c .before .loop .inv .1
-    ∙ ap (λ (n : ℕ). token (mostOf (λ f. heldOf (λ s. getD (a .claims) s noHold) (a .n) (a .pace .common) (backAt (a .pace) (a .consumer) (a .start) f) .0) n)) e
+    ∙ ap (λ (n : ℕ). token (mostOf (λ f. heldOf (λ s. getD (a .claims) s noHold) (a .n) (a .pace .step .tokens) (backAt (a .pace) (a .consumer) (a .start) f) .0) n)) e
 
 pub greatest-spec : {M : Type 1} → statement M
 greatest-spec =
@@ -101,14 +109,15 @@ greatest-spec =
     Inv-loop
     μ-loop
     loop-holds
+    (λ c κs. search needs)
     ends-requires
     back-requires
     held-requires
     (λ c κs. search needs)
     array-read-moved
     (λ c κs. search needs)
-    added-requires
-    (λ c. omega (arith, c .before .before .before .before .before .before .before .before .before .before .before .pre .1 .proper .phases))
+    plus-requires
+    (λ c. omega (arith, c .before .before .before .before .before .before .before .before .before .before .before .before .before .pre .1 .proper .phases))
     (λ c. omega arith)
     loop-again
     returns)

@@ -5,7 +5,7 @@ use Prim.Native.Nat.{_-_, _≤_}
 use native.Mathlib.Omega.{arith}
 use lib.ListN.{getD}
 use Rattle.numbers.specs.Extreme.{mostOf, most-next}
-use Rattle.units.specs.Tokens.{token, moreOf}
+use Rattle.units.specs.Tokens.{token, greaterToken}
 use Rattle.channel.specs.Phases.{noHold, claimOf, heldOf}
 use Rattle.channel.proofs.claims.held.Statement.{statement}
 use Rattle.channel.proofs.claims.held.Tie as tie
@@ -30,7 +30,7 @@ loop-again c =
     let l = c .before .before .before .before in
     let a = l .before .args in (
       omega arith,
-      c .more .ensures ∙ ap₂ moreOf (l .loop .inv .1) (c .before .claim .ensures)
+      c .greater .ensures ∙ ap₂ greaterToken (l .loop .inv .1) (c .before .claim .ensures)
           ∙ (λ i. token (sym (most-next (λ k. claimOf (a .common) (getD (a .t1) k noHold) (a .back) .0) (l .loop .s)) i)),
     )
 

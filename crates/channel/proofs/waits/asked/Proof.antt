@@ -23,7 +23,7 @@ returns-2 c =
     let s = c .before .before .before .before in
     let a = s .args in
     rw (ne-eqb (a .rate) 0 (c .before .before .before .if1 .left))
-    (c .longest .ensures ∙ ap (λ (m : Mark). longestOf (λ s. getD (a .gives) s noMark) (a .n) (a .pace .step) m) (c .before .take .ensures))
+    (c .longest .ensures ∙ ap (λ (m : Mark). longestOf (λ s. getD (a .gives) s noMark) (a .n) (a .pace .step .ticks) m) (c .before .take .ensures))
 
 pub asked-spec : {M : Type 1} → statement M
 asked-spec = tie.close (tie.spec returns (λ c κs. search needs) longest-requires returns-2)

@@ -8,8 +8,9 @@ use Rattle.numbers.specs.Extreme.{mostOf, most-next}
 use Rattle.numbers.specs.Sum.{sum}
 use Rattle.units.specs.declared.Tick.{Tick}
 use Rattle.units.specs.declared.Token.{Token}
-use Rattle.units.specs.Ticks.{tick, laterOf}
-use Rattle.terms.specs.Period.{firing}
+use Rattle.units.specs.Ticks.{tick, greaterTick}
+use Rattle.units.specs.Firings.{firing}
+use Rattle.terms.specs.Period.{beginsAt}
 use Rattle.terms.specs.Rate.{tokensOf}
 use Rattle.channel.specs.declared.waits.Mark.{Mark}
 use Rattle.channel.specs.Flow.{ratesOf}
@@ -34,8 +35,8 @@ loop-holds c = (omega arith, refl, refl)
 array-read-moved : tie.Need-array-read-moved Inv-loop μ-loop
 array-read-moved c = omega (arith, c .before .before .before .before .pre .1 .proper .phases)
 
-added-requires : tie.Need-added-requires Inv-loop μ-loop
-added-requires c κs =
+plus-requires : tie.Need-plus-requires Inv-loop μ-loop
+plus-requires c κs =
     let l = c .before .before in
     let t = l .before .before .before in
     omega (
@@ -48,36 +49,38 @@ added-requires c κs =
 
 begins-requires : tie.Need-begins-requires Inv-loop μ-loop
 begins-requires c κs =
-    let l = c .before .before .before in
+    let l = c .before .before .before .before in
     let t = l .before .before .before in
-    omega (arith, ends-by (t .args .consumer) (l .loop .f) (t .pre .1) (omega arith))
+    rw (c .phases .ensures) (omega (arith, ends-by (t .args .consumer) (l .loop .f) (t .pre .1) (omega arith)))
 
 array-read-asked : tie.Need-array-read-asked Inv-loop μ-loop
-array-read-asked c = omega (arith, c .before .before .before .before .before .before .before .pre .1 .proper .phases)
+array-read-asked c = omega (arith, c .before .before .before .before .before .before .before .before .pre .1 .proper .phases)
 
 asked-requires : tie.Need-asked-requires Inv-loop μ-loop
 asked-requires c κs =
-    let l = c .before .before .before .before in
+    let l = c .before .before .before .before .before in
     let t = l .before .before .before in
-    let taken = tokens-next (t .args .consumer) (t .pre .1 .proper) (l .loop .f) (omega arith) (l .loop .inv .2) (c .before .before .moved .ensures) (c .before .added .ensures) in (
+    let begins = c .begins .ensures ∙ ap (beginsAt (tick 0) (t .args .consumer .period)) (c .before .phases .ensures) in
+    let taken = tokens-next (t .args .consumer) (t .pre .1 .proper) (l .loop .f) (omega arith) (l .loop .inv .2) (c .before .before .before .moved .ensures) (c .before .before .plus .ensures) in (
       t .pre .0,
       t .pre .2,
-      subst₂ (λ (x : Tick) (y : Token). Early x y) (sym (c .begins .ensures)) (sym taken) (take-early (t .args .consumer) (l .loop .f) (t .pre .1) (omega arith)),
+      subst₂ (λ (x : Tick) (y : Token). Early x y) (sym begins) (sym taken) (take-early (t .args .consumer) (l .loop .f) (t .pre .1) (omega arith)),
     )
 
 loop-again : tie.Need-loop-again Inv-loop μ-loop
 loop-again c =
     let d = c .before .before in
-    let l = d .before .before .before .before in
+    let l = d .before .before .before .before .before in
     let t = l .before .before .before in
     let q = t .args .consumer in
+    let begins = d .begins .ensures ∙ ap (beginsAt (tick 0) (q .period)) (d .before .phases .ensures) in
     let f = l .loop .f in
-    let taken = tokens-next q (t .pre .1 .proper) f (omega arith) (l .loop .inv .2) (d .before .before .moved .ensures) (d .before .added .ensures) in
+    let taken = tokens-next q (t .pre .1 .proper) f (omega arith) (l .loop .inv .2) (d .before .before .before .moved .ensures) (d .before .before .plus .ensures) in
     let gives : ℕ → Mark = λ s. getD (t .args .gives) s noMark in (
       omega arith,
-      c .later .ensures
-          ∙ ap₂ laterOf (l .loop .inv .1)
-          (c .before .asked .ensures ∙ (λ i. askedBy gives (t .args .n) (t .args .pace) (d .begins .ensures i) (sym (rate-at q (t .pre .1 .proper) f (omega arith)) i) (taken i)))
+      c .greater .ensures
+          ∙ ap₂ greaterTick (l .loop .inv .1)
+          (c .before .asked .ensures ∙ (λ i. askedBy gives (t .args .n) (t .args .pace) (begins i) (sym (rate-at q (t .pre .1 .proper) f (omega arith)) i) (taken i)))
           ∙ (λ i. tick (sym (most-next (λ f. askedOf gives (t .args .n) (t .args .pace) q f .0) f) i)),
       taken,
     )
@@ -98,7 +101,8 @@ latest-spec =
     loop-holds
     array-read-moved
     (λ c κs. search needs)
-    added-requires
+    plus-requires
+    (λ c κs. search needs)
     begins-requires
     array-read-asked
     asked-requires

@@ -5,7 +5,7 @@ use Prim.Native.Nat.{_-_, _≤_}
 use native.Mathlib.Omega.{arith}
 use lib.ListN.{getD}
 use Rattle.numbers.specs.Extreme.{mostOf, most-next}
-use Rattle.units.specs.Ticks.{tick, laterOf}
+use Rattle.units.specs.Ticks.{tick, greaterTick}
 use Rattle.channel.specs.Phases.{noMark, waitOf, longestOf}
 use Rattle.channel.proofs.waits.longest.Statement.{statement}
 use Rattle.channel.proofs.waits.longest.Tie as tie
@@ -30,7 +30,7 @@ loop-again c =
     let l = c .before .before .before .before in
     let a = l .before .args in (
       omega arith,
-      c .later .ensures ∙ ap₂ laterOf (l .loop .inv .1) (c .before .wait .ensures)
+      c .greater .ensures ∙ ap₂ greaterTick (l .loop .inv .1) (c .before .wait .ensures)
           ∙ (λ i. tick (sym (most-next (λ k. waitOf (a .step) (getD (a .t1) k noMark) (a .take) .0) (l .loop .s)) i)),
     )
 

@@ -4,15 +4,15 @@ use mathlib.Core.Path.{ap, ap₂, _∙_}
 use native.Mathlib.Omega.{arith}
 use Rattle.numbers.specs.Decides.{leb-is}
 use Rattle.units.specs.declared.Tick.{Tick}
-use Rattle.units.specs.Ticks.{plusOf, minusOf}
+use Rattle.units.specs.Ticks.{plusTicks, minusTicks}
 use Rattle.channel.proofs.waits.wait.Statement.{statement}
 use Rattle.channel.proofs.waits.wait.Tie as tie
 
 returns : tie.Need-returns
 returns c =
     let d = c .before .before .before in
-    rw (leb-is _ _ _ (c .before .before .within .ensures) ∙ c .before .if1 .taken)
-    (c .minus .ensures ∙ ap₂ minusOf (d .before .plus .ensures) (d .plus2 .ensures))
+    rw (leb-is _ _ _ (c .before .before .at-most .ensures) ∙ c .before .if1 .taken)
+    (c .minus .ensures ∙ ap₂ minusTicks (d .before .plus .ensures) (d .plus2 .ensures))
 
 plus-requires-3 : tie.Need-plus-requires-3
 plus-requires-3 c κs =
@@ -23,8 +23,8 @@ returns-2 : tie.Need-returns-2
 returns-2 c =
     let d = c .before .before .before .before in
     let a = d .before .before .args in
-    rw (leb-is _ _ _ (c .before .before .before .within .ensures) ∙ c .before .before .if1 .left)
-    (c .minus2 .ensures ∙ ap₂ minusOf (d .before .plus .ensures) (c .before .plus3 .ensures ∙ ap (λ (x : Tick). plusOf x (a .step)) (d .plus2 .ensures)))
+    rw (leb-is _ _ _ (c .before .before .before .at-most .ensures) ∙ c .before .before .if1 .left)
+    (c .minus2 .ensures ∙ ap₂ minusTicks (d .before .plus .ensures) (c .before .plus3 .ensures ∙ ap (λ (x : Tick). plusTicks x (a .step)) (d .plus2 .ensures)))
 
 pub wait-spec : {M : Type 1} → statement M
 wait-spec =

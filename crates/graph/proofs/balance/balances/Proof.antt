@@ -8,7 +8,7 @@ use native.Mathlib.Omega.{arith}
 use lib.ListN.{getD}
 use Rattle.numbers.specs.All.{Below}
 use Rattle.numbers.specs.Decides.{Decides, decides-unique, decides-yes, decides-no, decides-true, decides-false}
-use Rattle.terms.specs.Rate.{times}
+use Rattle.units.specs.Tokens.{timesTokens}
 use Rattle.graph.specs.declared.balance.Flow.{Flow}
 use Rattle.graph.specs.Shape.{channelAt}
 use Rattle.graph.specs.Proper.{ProperChannel}
@@ -49,7 +49,7 @@ even : (c : tie.After-even Inv-loop μ-loop) → Decides (Even (c .before .befor
 even c =
     let s = c .before .before .before .before .before .before .before .args in
     let k = channelAt (s .t1) (c .before .before .before .before .before .before .loop .k) in
-    subst (λ (f : Flow). Decides (times (getD (s .t2) (k .from) 0) (f .made) ≡ times (getD (s .t2) (k .to) 0) (f .taken)) (c .even .result)) (c .before .flow-of .ensures) (c .even .ensures)
+    subst (λ (f : Flow). Decides (timesTokens (getD (s .t2) (k .from) 0) (f .made) ≡ timesTokens (getD (s .t2) (k .to) 0) (f .taken)) (c .even .result)) (c .before .flow-of .ensures) (c .even .ensures)
 
 returns : tie.Need-returns Inv-loop μ-loop
 returns c =

@@ -5,7 +5,7 @@ use Prim.Native.Nat.{ℕ, _-_, _*_, _≤_}
 use native.Mathlib.Nat.{le-refl, mul-le-mul}
 use native.Mathlib.Omega.{arith}
 use lib.ListN.{getD}
-use Rattle.terms.specs.Limits.{ACTORS}
+use Rattle.units.specs.Limits.{ACTORS}
 use Rattle.graph.proofs.Flows.{Scaling, scaling-none, scaling-more, scaled-all, scaled-over}
 use Rattle.graph.proofs.balance.scaled.Statement.{statement}
 use Rattle.graph.proofs.balance.scaled.Tie as tie

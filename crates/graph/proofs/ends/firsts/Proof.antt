@@ -8,7 +8,7 @@ use native.Mathlib.Omega.{arith}
 use lib.Dec.{eqb}
 use lib.ListN.{getD}
 use Rattle.numbers.specs.Bits.{adding, has-is, with-is}
-use Rattle.terms.specs.Limits.{ACTORS}
+use Rattle.units.specs.Limits.{ACTORS}
 use Rattle.graph.specs.Rounds.{chosen}
 use Rattle.graph.proofs.Bounds.{chosen-next}
 use Rattle.graph.proofs.ends.firsts.Statement.{statement}

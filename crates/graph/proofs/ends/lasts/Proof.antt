@@ -7,7 +7,7 @@ use mathlib.Core.Logic.{⊎-elim}
 use Prim.Native.Nat.{ℕ, _≤_, _-_}
 use native.Mathlib.Omega.{arith}
 use Rattle.numbers.specs.Bits.{hasb, adding, has-is, with-is}
-use Rattle.terms.specs.Limits.{ACTORS}
+use Rattle.units.specs.Limits.{ACTORS}
 use Rattle.graph.specs.Rounds.{chosen}
 use Rattle.graph.proofs.Bounds.{chosen-next}
 use Rattle.graph.proofs.ends.lasts.Statement.{statement}

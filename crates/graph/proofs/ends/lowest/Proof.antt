@@ -5,7 +5,7 @@ use Prim.Native.Nat.{_≤_, _-_}
 use native.Mathlib.Omega.{arith}
 use Rattle.numbers.specs.Bits.{hasb, has-is}
 use Rattle.numbers.specs.Lowest.{lowestOr, lowest-next}
-use Rattle.terms.specs.Limits.{ACTORS}
+use Rattle.units.specs.Limits.{ACTORS}
 use Rattle.graph.specs.Rounds.{lowestOf}
 use Rattle.graph.proofs.ends.lowest.Statement.{statement}
 use Rattle.graph.proofs.ends.lowest.Tie as tie

@@ -1,34 +1,33 @@
 -- graph::iteration::firings_of meets its contract. The invariant: the firings of the actors below i are set. Assumes nothing.
 use borrow.Author.Needs.{needs}
-use mathlib.Core.Path.{refl}
-use Prim.Native.Nat.{_*_, _-_}
+use Prim.Native.Nat.{_-_}
 use native.Mathlib.Nat.{mul-le-mul}
 use native.Mathlib.Omega.{arith}
 use lib.ListN.{getD}
 use Rattle.numbers.specs.Filled.{FilledBy, filled-none, filled-set, filled-all}
-use Rattle.terms.specs.Limits.{ACTORS}
-use Rattle.terms.specs.Period.{firing}
+use Rattle.units.specs.Limits.{ACTORS}
+use Rattle.units.specs.Firings.{firing}
+use Rattle.terms.specs.Rate.{cyclesOf}
 use Rattle.graph.specs.Shape.{noActor}
 use Rattle.graph.proofs.iteration.firings_of.Statement.{statement}
 use Rattle.graph.proofs.iteration.firings_of.Tie as tie
 
 abbrev Inv-loop : tie.InvT-loop
-Inv-loop actors counts firings₀ i₀ firings i = FilledBy ACTORS (λ k. firing (getD actors k noActor .phases * getD counts k 0)) (firing 0) firings i
+Inv-loop actors counts firings₀ i₀ firings i = FilledBy ACTORS (λ k. cyclesOf (getD actors k noActor .phases) (getD counts k 0)) (firing 0) firings i
 
 abbrev μ-loop : tie.MeasureT-loop
 μ-loop actors counts firings₀ i₀ firings i = ACTORS - i
 
--- a product fits
-mul-t18 : tie.Need-mul-t18 Inv-loop μ-loop
-mul-t18 c =
+cycles-requires : tie.Need-cycles-requires Inv-loop μ-loop
+cycles-requires c κs =
     let i = c .before .before .loop .i in
     let (fitting, small) = c .before .before .before .pre in
     omega (arith, mul-le-mul (fitting .phases i) (small .small i))
 
 loop-again : tie.Need-loop-again Inv-loop μ-loop
 loop-again c =
-    let l = c .before .before .loop in
-    filled-set ACTORS _ (firing 0) (firing 0) _ (l .i) _ (omega arith) refl (l .inv)
+    let l = c .before .before .before .loop in
+    filled-set ACTORS _ (firing 0) (firing 0) _ (l .i) _ (omega arith) (c .cycles .ensures) (l .inv)
 
 pub firings-of-spec : {M : Type 1} → statement M
 firings-of-spec =
@@ -41,7 +40,7 @@ firings-of-spec =
     (λ c. search needs)
     (λ c. search needs)
     (λ c. search needs)
-    mul-t18
+    cycles-requires
     (λ c. search needs)
     (λ c. search needs)
     (λ c. omega arith)

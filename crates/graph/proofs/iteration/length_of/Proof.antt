@@ -4,8 +4,7 @@ use mathlib.Core.Path.{_≡_, sym, ap, _∙_}
 use Prim.Native.Nat.{_<_}
 use Rattle.units.specs.declared.Tick.{Tick}
 use Rattle.units.specs.declared.Firing.{Firing}
-use Rattle.units.specs.Ticks.{tick}
-use Rattle.terms.specs.Limits.{ACTORS, ITERATION-LIMIT}
+use Rattle.units.specs.Limits.{ACTORS, ITERATION-LIMIT}
 use Rattle.terms.specs.declared.period.Firings.{Firings}
 use Rattle.terms.specs.declared.period.Firings.the-variants.{Are}
 use Rattle.terms.specs.Reckoned.{iterationOf, iteration-is}
@@ -26,8 +25,8 @@ some c = common-pos _ _ (c .before .before .before .before .before .pre .1) (fou
 
 returns-2 : tie.Need-returns-2
 returns-2 c =
-    iteration-is (multiple (c .before)) (c .before .most-of .result) (tick ITERATION-LIMIT) (c .iteration .result) (some (c .before)) (c .iteration .ensures)
-    ∙ ap (λ (w : Tick). iterationOf (multiple (c .before)) w (tick ITERATION-LIMIT)) (c .before .most-of .ensures)
+    iteration-is (multiple (c .before)) (c .before .most-of .result) ITERATION-LIMIT (c .iteration .result) (some (c .before)) (c .iteration .ensures)
+    ∙ ap (λ (w : Tick). iterationOf (multiple (c .before)) w ITERATION-LIMIT) (c .before .most-of .ensures)
     ∙ ap (λ (f : Firings). lengthBy f (mostFrom (c .before .before .before .before .before .before .args .works) ACTORS)) (sym (found (c .before)))
 
 pub length-of-spec : {M : Type 1} → statement M

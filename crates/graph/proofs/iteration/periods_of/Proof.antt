@@ -10,8 +10,9 @@ use Rattle.numbers.specs.Bits.{hasb, has-is}
 use Rattle.numbers.specs.Decides.{decides-true}
 use Rattle.numbers.specs.Filled.{FilledBy, filled-none, filled-set, filled-left, filled-all}
 use Rattle.units.specs.Ticks.{tick}
-use Rattle.terms.specs.Limits.{ACTORS}
-use Rattle.terms.specs.Period.{firing, periodOf}
+use Rattle.units.specs.Limits.{ACTORS}
+use Rattle.units.specs.Firings.{firing}
+use Rattle.terms.specs.Period.{periodOf}
 use Rattle.graph.proofs.iteration.periods_of.Statement.{statement}
 use Rattle.graph.proofs.iteration.periods_of.Tie as tie
 

@@ -6,20 +6,21 @@ use native.Mathlib.Omega.{arith}
 use lib.ListN.{getD}
 use Rattle.numbers.specs.Filled.{FilledBy, filled-none, filled-set, filled-all}
 use Rattle.units.specs.Ticks.{tick}
-use Rattle.terms.specs.Limits.{ACTORS}
-use Rattle.terms.specs.Period.{firing, beginsAt}
+use Rattle.units.specs.Limits.{ACTORS}
+use Rattle.units.specs.Firings.{firing}
+use Rattle.terms.specs.Period.{workOf}
 use Rattle.graph.specs.Shape.{noActor}
 use Rattle.graph.proofs.iteration.works_of.Statement.{statement}
 use Rattle.graph.proofs.iteration.works_of.Tie as tie
 
 abbrev Inv-loop : tie.InvT-loop
-Inv-loop actors firings works₀ i₀ works i = FilledBy ACTORS (λ k. beginsAt (tick 0) (getD actors k noActor .wcet) (getD firings k (firing 0))) (tick 0) works i
+Inv-loop actors firings works₀ i₀ works i = FilledBy ACTORS (λ k. workOf (getD actors k noActor .wcet) (getD firings k (firing 0))) (tick 0) works i
 
 abbrev μ-loop : tie.MeasureT-loop
 μ-loop actors firings works₀ i₀ works i = ACTORS - i
 
-begins-requires : tie.Need-begins-requires Inv-loop μ-loop
-begins-requires c κs =
+work-requires : tie.Need-work-requires Inv-loop μ-loop
+work-requires c κs =
     let i = c .before .before .before .loop .i in
     let (fitting, few) = c .before .before .before .before .pre in
     omega (arith, mul-le-mul (few .few i) (fitting .wcet i))
@@ -27,7 +28,7 @@ begins-requires c κs =
 loop-again : tie.Need-loop-again Inv-loop μ-loop
 loop-again c =
     let l = c .before .before .before .before .loop in
-    filled-set ACTORS _ (tick 0) (tick 0) _ (l .i) _ (omega arith) (c .begins .ensures) (l .inv)
+    filled-set ACTORS _ (tick 0) (tick 0) _ (l .i) _ (omega arith) (c .work .ensures) (l .inv)
 
 pub works-of-spec : {M : Type 1} → statement M
 works-of-spec =
@@ -40,7 +41,7 @@ works-of-spec =
     (λ c. search needs)
     (λ c. search needs)
     (λ c. search needs)
-    begins-requires
+    work-requires
     (λ c. search needs)
     (λ c. search needs)
     (λ c. omega arith)

@@ -5,7 +5,7 @@ use Prim.Native.Nat.{suc, _+_, _-_, _≤_, _<_}
 use native.Mathlib.Omega.{arith}
 use Rattle.numbers.specs.Lowest.{lowestOr}
 use Rattle.numbers.specs.declared.fraction.Fraction.{Fraction}
-use Rattle.terms.specs.Limits.{PROCESSORS}
+use Rattle.units.specs.Limits.{PROCESSORS}
 use Rattle.graph.specs.Lengths.{overloadedOf}
 use Rattle.graph.proofs.Shared.{overb, over-next}
 use Rattle.graph.proofs.load.overloaded.Statement.{statement}

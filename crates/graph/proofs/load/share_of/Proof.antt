@@ -7,8 +7,8 @@ use Prim.Native.Nat.{_≤_, _-_}
 use native.Mathlib.Omega.{arith}
 use lib.ListN.{getD}
 use Rattle.units.specs.declared.Tick.{Tick}
-use Rattle.units.specs.Ticks.{tick, plusOf}
-use Rattle.terms.specs.Limits.{ACTORS}
+use Rattle.units.specs.Ticks.{tick, plusTicks}
+use Rattle.units.specs.Limits.{ACTORS}
 use Rattle.graph.specs.Lengths.{shareFrom}
 use Rattle.graph.proofs.Shared.{share-next, share-most}
 use Rattle.graph.proofs.load.share_of.Statement.{statement}
@@ -36,7 +36,7 @@ loop-again c =
       omega arith,
       rw share-next
           (⊎-elim
-          (λ w. rw (eq-eqb _ _ (w .0 .taken)) (w .3 ∙ w .2 .ensures ∙ ap (λ (t : Tick). plusOf t (getD (c .before .before .before .before .before .args .t2) (l .i) (tick 0))) (l .inv .1)))
+          (λ w. rw (eq-eqb _ _ (w .0 .taken)) (w .3 ∙ w .2 .ensures ∙ ap (λ (t : Tick). plusTicks t (getD (c .before .before .before .before .before .args .t2) (l .i) (tick 0))) (l .inv .1)))
           (λ w. rw (ne-eqb _ _ (w .0 .left)) (w .1 ∙ l .inv .1))
           (c .if1 .came)),
     )

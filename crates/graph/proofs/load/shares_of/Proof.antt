@@ -6,7 +6,7 @@ use native.Mathlib.Numerals.{add-one}
 use native.Mathlib.Omega.{arith}
 use Rattle.numbers.specs.Filled.{FilledBy, filled-none, filled-set, filled-all}
 use Rattle.units.specs.Ticks.{tick}
-use Rattle.terms.specs.Limits.{ACTORS, PROCESSORS}
+use Rattle.units.specs.Limits.{ACTORS, PROCESSORS}
 use Rattle.graph.specs.Lengths.{shareFrom}
 use Rattle.graph.proofs.load.shares_of.Statement.{statement}
 use Rattle.graph.proofs.load.shares_of.Tie as tie

@@ -5,7 +5,7 @@ use mathlib.Core.Logic.{⊎-elim}
 use Prim.Native.Nat.{_≤_, _-_}
 use native.Mathlib.Omega.{arith}
 use Rattle.numbers.specs.Bits.{has-is, within-is}
-use Rattle.terms.specs.Limits.{ACTORS}
+use Rattle.units.specs.Limits.{ACTORS}
 use Rattle.graph.specs.declared.order.Order.{Order}
 use Rattle.graph.specs.Rounds.{moved, roundFrom}
 use Rattle.graph.proofs.Sorted.{round-next}

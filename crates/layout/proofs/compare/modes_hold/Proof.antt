@@ -6,7 +6,7 @@ use native.Mathlib.Omega.{arith}
 use denote.Ref.{now}
 use lib.ListN.{length-take, length-drop}
 use Rattle.numbers.specs.Decides.{decides-yes, decides-no, decides-true, decides-false}
-use Rattle.terms.specs.Limits.{MODES}
+use Rattle.units.specs.Limits.{MODES}
 use Rattle.layout.specs.Joined.{part, joined-part}
 use Rattle.layout.specs.Words.{MODE-WORDS, modeWordsAt}
 use Rattle.layout.specs.Laws.{length-mode-at}

@@ -5,7 +5,7 @@ use Prim.Native.Nat.{_-_}
 use native.Mathlib.Omega.{arith}
 use lib.ListN.{length-take, length-drop}
 use Rattle.numbers.specs.Filled.{FilledBy, filled-none, filled-set, filled-all}
-use Rattle.terms.specs.Limits.{CHANNELS}
+use Rattle.units.specs.Limits.{CHANNELS}
 use Rattle.graph.specs.Shape.{emptyChannel}
 use Rattle.layout.specs.Joined.{part}
 use Rattle.layout.specs.Words.{CHANNEL-WORDS}

@@ -5,7 +5,7 @@ use Prim.Native.Nat.{ℕ, _%_, _-_}
 use native.Mathlib.Omega.{arith}
 use lib.ListN.{getD}
 use Rattle.numbers.specs.Filled.{FilledBy, filled-none, filled-set, filled-all}
-use Rattle.terms.specs.Limits.{PHASES}
+use Rattle.units.specs.Limits.{PHASES}
 use Rattle.layout.proofs.load.rates_of.Statement.{statement}
 use Rattle.layout.proofs.load.rates_of.Tie as tie
 

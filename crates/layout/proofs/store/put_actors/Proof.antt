@@ -4,7 +4,7 @@ use mathlib.Core.Path.{refl}
 use Prim.Native.Nat.{_≤_, _-_}
 use native.Mathlib.Omega.{arith}
 use lib.ListN.{length-take, length-drop}
-use Rattle.terms.specs.Limits.{ACTORS}
+use Rattle.units.specs.Limits.{ACTORS}
 use Rattle.layout.specs.Words.{ACTOR-WORDS, actorWordsAt}
 use Rattle.layout.proofs.Laid.{Begun, begun-none, begun-put, begun-all}
 use Rattle.layout.proofs.store.put_actors.Statement.{statement}

@@ -8,7 +8,7 @@ use denote.Ref.{now}
 use lib.ListN.{length, getD, set, length-set}
 use borrow.Rule.Slice.PartMut.{putMid}
 use Rattle.numbers.specs.Tab.{tab, is-tab}
-use Rattle.terms.specs.Limits.{PHASES}
+use Rattle.units.specs.Limits.{PHASES}
 use Rattle.layout.specs.Words.{CHANNEL-WORDS}
 use Rattle.layout.proofs.store.put_channel.Statement.{statement}
 use Rattle.layout.proofs.store.put_channel.Tie as tie

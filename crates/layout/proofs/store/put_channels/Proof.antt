@@ -3,7 +3,7 @@ use borrow.Author.Needs.{needs}
 use Prim.Native.Nat.{_≤_, _-_}
 use native.Mathlib.Omega.{arith}
 use lib.ListN.{length-take, length-drop}
-use Rattle.terms.specs.Limits.{CHANNELS}
+use Rattle.units.specs.Limits.{CHANNELS}
 use Rattle.layout.specs.Words.{CHANNEL-WORDS, channelWordsAt}
 use Rattle.layout.specs.Laws.{length-channel-at}
 use Rattle.layout.proofs.Laid.{Begun, begun-none, begun-put, begun-all}

@@ -5,7 +5,7 @@ use Prim.Native.Nat.{ℕ, _+_}
 use native.Mathlib.Omega.{arith}
 use denote.Ref.{now}
 use lib.ListN.{length-append}
-use Rattle.terms.specs.Limits.{ACTORS}
+use Rattle.units.specs.Limits.{ACTORS}
 use Rattle.layout.specs.Joined.{joined}
 use Rattle.layout.specs.Words.{HEAD-WORDS, headWords, actorWordsAt, modeWords}
 use Rattle.layout.specs.Laws.{length-actors, length-channels, length-mode}

@@ -3,7 +3,7 @@ use borrow.Author.Needs.{needs}
 use Prim.Native.Nat.{_≤_, _-_}
 use native.Mathlib.Omega.{arith}
 use lib.ListN.{length-take, length-drop}
-use Rattle.terms.specs.Limits.{MODES}
+use Rattle.units.specs.Limits.{MODES}
 use Rattle.layout.specs.Words.{MODE-WORDS, modeWordsAt}
 use Rattle.layout.specs.Laws.{length-mode-at}
 use Rattle.layout.proofs.Laid.{Begun, begun-none, begun-put, begun-all}

@@ -6,7 +6,7 @@ use native.Mathlib.Nat.{not-suc-le-zero}
 use native.Mathlib.Omega.{arith}
 use lib.ListN.{length, getD, length-set}
 use Rattle.numbers.specs.Tab.{is-tab, filled-more}
-use Rattle.terms.specs.Limits.{PHASES}
+use Rattle.units.specs.Limits.{PHASES}
 use Rattle.layout.proofs.store.put_rates.Statement.{statement}
 use Rattle.layout.proofs.store.put_rates.Tie as tie
 

@@ -45,7 +45,7 @@ change-spec =
     (λ c.
     let s = c .before .before .before .before in
     rw (
-      c .later .ensures,
+      c .greater .ensures,
       c .before .plus5 .ensures,
       c .before .before .minus3 .ensures,
       c .before .before .before .plus4 .ensures,

@@ -3,10 +3,11 @@ use borrow.Author.Needs.{needs}
 use borrow.Author.Tests.{not-true, not-false}
 use mathlib.Core.Path.{_≡_, sym, ap, subst, _∙_}
 use mathlib.Core.Bool.{true}
-use Prim.Native.Nat.{_≤_, _^_}
+use Prim.Native.Nat.{_≤_}
 use native.Mathlib.Nat.{lt-of-not-le}
 use denote.Ref.{now}
 use Rattle.numbers.specs.Decides.{decides-true, decides-false}
+use Rattle.units.specs.Limits.{CLOCK-LIMIT}
 use Rattle.run.specs.Plan.{Plan}
 use Rattle.run.specs.Machine.{Machine, Request}
 use Rattle.run.proofs.Delay.{Accepted}
@@ -38,13 +39,13 @@ old : (c : tie.Else2) → let e = c .before .before .before .before in plan e .l
 old c = sym (c .before .listed .ensures) ∙ not-false (c .before .listed .result) (c .if2 .left)
 
 ordered : (c : tie.Else3) → let e = c .before .before .before .before .before .before .before .before in now-is e .started ≤ now-is e .ended
-ordered c = decides-true (c .before .by .ensures) (not-false (c .before .by .result) (c .if3 .left))
+ordered c = decides-true (c .before .at-most .ensures) (not-false (c .before .at-most .result) (c .if3 .left))
 
 new : (c : tie.Else4) → let e = c .before .before .before .before .before .before .before .before .before .before in plan e .listed (asked e .mode) ≡ true
 new c = sym (c .before .listed2 .ensures) ∙ not-false (c .before .listed2 .result) (c .if4 .left)
 
-clock : (c : tie.Else6) → let e = c .before .before .before .before .before .before .before .before .before .before .before .before .before .before in asked e .tick ≤ 2 ^ 62
-clock c = decides-true (c .before .by2 .ensures) (not-false (c .before .by2 .result) (c .if6 .left))
+clock : (c : tie.Else6) → let e = c .before .before .before .before .before .before .before .before .before .before .before .before .before .before in asked e .tick ≤ CLOCK-LIMIT .0
+clock c = decides-true (c .before .at-most2 .ensures) (not-false (c .before .at-most2 .result) (c .if6 .left))
 
 accepted : (c : tie.Else7) → let e = c .before .before .before .before .before .before .before .before .before .before .before .before .before .before .before .before in Accepted (plan e) (now-is e) (asked e)
 accepted c =
@@ -57,7 +58,7 @@ accepted c =
       other = b .if5 .left;
       ordered = ordered (a .before .before);
       clock = clock d;
-      settled = decides-true (c .before .by3 .ensures) (not-false (c .before .by3 .result) (c .if7 .left));
+      settled = decides-true (c .before .at-most3 .ensures) (not-false (c .before .at-most3 .result) (c .if7 .left));
     }
 
 unstored : tie.Need-returns
@@ -80,7 +81,7 @@ disordered c =
     let d = r .before .before .before in
     let e = d .before .before .before .before in
     refuses (leaves e) {n = 15}
-    (refused-disordered (plan e) (now-is e) (asked e) (old d) (lt-of-not-le (decides-false (r .by .ensures) (not-true (r .by .result) (c .before .if3 .taken)))))
+    (refused-disordered (plan e) (now-is e) (asked e) (old d) (lt-of-not-le (decides-false (r .at-most .ensures) (not-true (r .at-most .result) (c .before .if3 .taken)))))
     (c .refuse3 .ensures)
 
 unknown : tie.Need-returns-4
@@ -107,7 +108,7 @@ late c =
     let e = d .before .before .before .before .before .before .before .before in
     refuses (leaves e) {n = 12}
     (refused-13 (plan e) (now-is e) (asked e) (old (d .before .before .before .before)) (ordered d) (new a) (r .before .if5 .left)
-    (lt-of-not-le (decides-false (r .by2 .ensures) (not-true (r .by2 .result) (c .before .if6 .taken))))) (c .refuse6 .ensures)
+    (lt-of-not-le (decides-false (r .at-most2 .ensures) (not-true (r .at-most2 .result) (c .before .if6 .taken))))) (c .refuse6 .ensures)
 
 early : tie.Need-returns-7
 early c =
@@ -118,7 +119,7 @@ early c =
     let e = d .before .before .before .before .before .before .before .before in
     refuses (leaves e) {n = 13}
     (refused-14 (plan e) (now-is e) (asked e) (old (d .before .before .before .before)) (ordered d) (new a) (b .if5 .left) (clock (r .before))
-    (lt-of-not-le (decides-false (r .by3 .ensures) (not-true (r .by3 .result) (c .before .if7 .taken))))) (c .refuse7 .ensures)
+    (lt-of-not-le (decides-false (r .at-most3 .ensures) (not-true (r .at-most3 .result) (c .before .if7 .taken))))) (c .refuse7 .ensures)
 
 pub request-spec : {M : Type 1} → statement M
 request-spec =

@@ -6,7 +6,7 @@ use mathlib.Core.Bool.{not}
 use Prim.Native.Nat.{_+_, _-_, _≤_}
 use native.Mathlib.Omega.{arith}
 use Rattle.numbers.specs.Lowest.{lowest-is, lowest-none, none-more, NonePasses}
-use Rattle.terms.specs.Limits.{MODES}
+use Rattle.units.specs.Limits.{MODES}
 use Rattle.graph.specs.Shape.{modeAt}
 use Rattle.planned.specs.Plan.{isListed}
 use Rattle.machine.proofs.Steps.{listed-place}

@@ -2,7 +2,7 @@
 use borrow.Author.Needs.{needs}
 use Prim.Native.Nat.{_-_, _≤_}
 use native.Mathlib.Omega.{arith}
-use Rattle.terms.specs.Limits.{ACTORS}
+use Rattle.units.specs.Limits.{ACTORS}
 use Rattle.printer.specs.Laid.{Laid, texts}
 use Rattle.printer.specs.Printed.{actorText, firingsAt, periodAt, startAt}
 use Rattle.printer.proofs.Laying.{laid-first, laid-next, laid-last, laid-length, room-next}

@@ -1,7 +1,7 @@
 -- printer::lines::changes meets its contract. The invariant: the lines of the first o are laid. Assumes nothing.
 use Prim.Native.Nat.{_-_, _≤_}
 use native.Mathlib.Omega.{arith}
-use Rattle.terms.specs.Limits.{MODES}
+use Rattle.units.specs.Limits.{MODES}
 use Rattle.printer.specs.Laid.{Laid, texts}
 use Rattle.printer.specs.Printed.{fromText}
 use Rattle.printer.proofs.Laying.{laid-first, laid-next, laid-last, laid-length, room-next}

@@ -3,7 +3,7 @@ use borrow.Author.Needs.{needs}
 use Prim.Native.Nat.{_-_, _≤_}
 use native.Mathlib.Omega.{arith}
 use lib.ListN.{getD}
-use Rattle.terms.specs.Limits.{MODES}
+use Rattle.units.specs.Limits.{MODES}
 use Rattle.printer.specs.Laid.{Laid, texts}
 use Rattle.printer.specs.Printed.{changeText, changeAt}
 use Rattle.printer.proofs.Laying.{laid-first, laid-next, laid-last, laid-length, room-next}

@@ -14,7 +14,7 @@ returns : tie.Need-returns
 returns c =
     let a = c .before .before .before .before .args .actor in
     Iff·trans
-    (decides-three (eqb (a .phases) 0) (eqb (a .processor) 0) (c .by .result) (decides-eqb (a .phases) 0 Iff·rfl) (decides-eqb (a .processor) 0 Iff·rfl) (c .by .ensures)) (
+    (decides-three (eqb (a .phases) 0) (eqb (a .processor) 0) (c .at-most .result) (decides-eqb (a .phases) 0 Iff·rfl) (decides-eqb (a .processor) 0 Iff·rfl) (c .at-most .ensures)) (
       (λ (p, q, w). is-nobody a p q (omega arith)),
       (λ e. (ap (λ (x : Actor). x .phases) e, ap (λ (x : Actor). x .processor) e, omega (arith, ap (λ (x : Actor). x .wcet .0) e))),
     )

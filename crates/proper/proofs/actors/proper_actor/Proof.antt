@@ -10,7 +10,7 @@ returns c =
     let p = c .before .before .before .numbered in
     let q = c .before .before .numbered2 in
     Iff·trans
-    (decides-four (p .result) (q .result) (c .before .by .result) (c .by2 .result) (p .ensures) (q .ensures) (c .before .by .ensures) (c .by2 .ensures)) (
+    (decides-four (p .result) (q .result) (c .before .at-most .result) (c .at-most2 .result) (p .ensures) (q .ensures) (c .before .at-most .ensures) (c .at-most2 .ensures)) (
       (λ (n, m, s, t). record { some-phase = n .0; phases = n .1; some-tick = s; wcet = t; some-processor = m .0; processor = m .1 }),
       (λ g. ((g .some-phase, g .phases), (g .some-processor, g .processor), g .some-tick, g .wcet)),
     )

@@ -7,7 +7,7 @@ use Prim.Native.Nat.{_≤_, _-_}
 use native.Mathlib.Omega.{arith}
 use Rattle.numbers.specs.All.{Below}
 use Rattle.numbers.specs.Decides.{decides-yes, decides-no, decides-true, decides-false}
-use Rattle.terms.specs.Limits.{ACTORS}
+use Rattle.units.specs.Limits.{ACTORS}
 use Rattle.proper.specs.Parts.{ActorStands}
 use Rattle.proper.proofs.actors.proper_actors.Statement.{statement}
 use Rattle.proper.proofs.actors.proper_actors.Tie as tie

@@ -7,7 +7,7 @@ use native.Mathlib.Omega.{arith}
 use Rattle.numbers.specs.All.{Below}
 use Rattle.numbers.specs.Bits.{Has, has-below}
 use Rattle.numbers.specs.Decides.{decides-yes, decides-no, decides-true, decides-false}
-use Rattle.terms.specs.Limits.{ACTORS}
+use Rattle.units.specs.Limits.{ACTORS}
 use Rattle.graph.specs.Shape.{channelAt}
 use Rattle.proper.specs.Parts.{ChannelStands}
 use Rattle.proper.proofs.Shape.{mode-shape}

@@ -9,7 +9,7 @@ use lib.ListN.{getD}
 use Rattle.numbers.specs.All.{Below}
 use Rattle.numbers.specs.Decides.{decides-yes, decides-no}
 use Rattle.numbers.specs.Tab.{getD-replicated}
-use Rattle.terms.specs.Limits.{PHASES}
+use Rattle.units.specs.Limits.{PHASES}
 use Rattle.proper.proofs.Parts.{no-rates}
 use Rattle.proper.proofs.channels.no_rates.Statement.{statement}
 use Rattle.proper.proofs.channels.no_rates.Tie as tie

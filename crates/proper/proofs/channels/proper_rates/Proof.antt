@@ -9,7 +9,7 @@ use native.Mathlib.Omega.{arith}
 use lib.ListN.{getD}
 use Rattle.numbers.specs.All.{Below}
 use Rattle.numbers.specs.Decides.{Decides, decides-yes, decides-no}
-use Rattle.terms.specs.Limits.{PHASES}
+use Rattle.units.specs.Limits.{PHASES}
 use Rattle.proper.proofs.Parts.{SomeBelow, some-next, rates-decide}
 use Rattle.proper.proofs.channels.proper_rates.Statement.{statement}
 use Rattle.proper.proofs.channels.proper_rates.Tie as tie

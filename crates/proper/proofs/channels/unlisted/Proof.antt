@@ -6,7 +6,7 @@ use Prim.Native.Nat.{_≤_, _-_}
 use native.Mathlib.Omega.{arith}
 use Rattle.numbers.specs.All.{Below}
 use Rattle.numbers.specs.Decides.{decides-yes, decides-no, decides-true, decides-false}
-use Rattle.terms.specs.Limits.{CHANNELS}
+use Rattle.units.specs.Limits.{CHANNELS}
 use Rattle.proper.specs.Parts.{ChannelLeft}
 use Rattle.proper.proofs.channels.unlisted.Statement.{statement}
 use Rattle.proper.proofs.channels.unlisted.Tie as tie

@@ -6,7 +6,7 @@ use native.Mathlib.Omega.{arith}
 use lib.ListN.{getD}
 use Rattle.numbers.specs.All.{Below}
 use Rattle.numbers.specs.Decides.{decides-yes, decides-no, decides-true, decides-false}
-use Rattle.terms.specs.Limits.{ACTORS}
+use Rattle.units.specs.Limits.{ACTORS}
 use Rattle.graph.specs.Shape.{noActor}
 use Rattle.proper.specs.Parts.{AtHome}
 use Rattle.proper.proofs.Parts.{decides-away, at-home}

@@ -7,7 +7,7 @@ use native.Mathlib.Omega.{arith}
 use lib.ListN.{getD}
 use Rattle.numbers.specs.All.{Below}
 use Rattle.numbers.specs.Decides.{decides-yes, decides-no}
-use Rattle.terms.specs.Limits.{ACTORS}
+use Rattle.units.specs.Limits.{ACTORS}
 use Rattle.proper.proofs.homes.inhabited.Statement.{statement}
 use Rattle.proper.proofs.homes.inhabited.Tie as tie
 

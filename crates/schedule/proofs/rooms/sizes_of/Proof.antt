@@ -2,7 +2,7 @@
 use Prim.Native.Nat.{ℕ, _≤_, _-_}
 use native.Mathlib.Omega.{arith}
 use Rattle.numbers.specs.Filled.{Filled, filled-none, filled-set}
-use Rattle.terms.specs.Limits.{CHANNELS}
+use Rattle.units.specs.Limits.{CHANNELS}
 use Rattle.units.specs.Tokens.{token}
 use Rattle.graph.specs.Shape.{channelAt}
 use Rattle.graph.specs.Proper.{ProperChannel}

@@ -4,9 +4,10 @@ use mathlib.Core.Logic.{⊎-elim}
 use Prim.Native.Nat.{ℕ, _-_, _≤_}
 use native.Mathlib.Nat.{mul-le-mul-right}
 use native.Mathlib.Omega.{arith}
+use Rattle.units.specs.Bounds.{MOST-WAIT}
 use Rattle.graph.specs.Shape.{channelAt}
 use Rattle.graph.specs.Proper.{ProperChannel}
-use Rattle.schedule.specs.Reached.{Reached, MOST-WAIT}
+use Rattle.schedule.specs.Reached.{Reached}
 use Rattle.schedule.proofs.Finding.{reached-aside, reached-asked, reached-depth}
 use Rattle.schedule.proofs.starts.at_depth.Statement.{statement}
 use Rattle.schedule.proofs.starts.at_depth.Tie as tie
@@ -30,7 +31,7 @@ asked-requires c κs =
     let d = c .before .before .before .before .before .before in
     let ready = d .before .before .before .pre .0 in
     let from = channelAt (d .before .before .before .args .t1) (place d) .from in
-    (ready .paced (place d) (d .before .loop-test .taken), omega (arith, d .before .before .loop .inv .1 .within from, mul-le-mul-right MOST-WAIT (ready .below from)))
+    (ready .paced (place d) (d .before .loop-test .taken), omega (arith, d .before .before .loop .inv .1 .within from, mul-le-mul-right (MOST-WAIT .0) (ready .below from)))
 
 loop-again : tie.Need-loop-again Inv-loop μ-loop
 loop-again c =

@@ -7,7 +7,7 @@ use Prim.Native.Nat.{ℕ, _-_, _≤_, _<_}
 use native.Mathlib.Nat.{lt-of-not-le, not-le-of-lt, not-suc-le-zero}
 use native.Mathlib.Omega.{arith}
 use Rattle.numbers.specs.Decides.{decides-true, decides-false}
-use Rattle.terms.specs.Limits.{ACTORS}
+use Rattle.units.specs.Limits.{ACTORS}
 use Rattle.schedule.specs.Reached.{Later}
 use Rattle.schedule.proofs.starts.late.Statement.{statement}
 use Rattle.schedule.proofs.starts.late.Tie as tie
@@ -25,7 +25,7 @@ returns c =
     record {
       holds = (
         (c .before .before .before .before .before .loop-test .taken, decides-true (c .before .before .before .before .has .ensures) (c .before .before .before .if1 .taken)),
-        lt-of-not-le (decides-false (c .before .by .ensures) (not-true (c .before .by .result) (c .if2 .taken))),
+        lt-of-not-le (decides-false (c .before .at-most .ensures) (not-true (c .before .at-most .result) (c .if2 .taken))),
       );
       least = λ k w. lowest k (l .i) (l .inv .1) w;
     }

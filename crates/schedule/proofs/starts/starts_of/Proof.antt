@@ -2,7 +2,7 @@
 use mathlib.Core.Path.{_≡_}
 use Prim.Native.Nat.{_-_, _≤_}
 use native.Mathlib.Omega.{arith}
-use Rattle.terms.specs.Limits.{ACTORS}
+use Rattle.units.specs.Limits.{ACTORS}
 use Rattle.schedule.specs.Reached.{Reached}
 use Rattle.schedule.proofs.Finding.{reached-first}
 use Rattle.schedule.proofs.starts.starts_of.Statement.{statement}

@@ -1,20 +1,21 @@
 -- table::rates::rates_of meets its contract. The loop's invariant: the rates before the word at hand were read. Assumes nothing.
-use mathlib.Core.Path.{ap, sym, _∙_}
+use mathlib.Core.Path.{_≡_, ap, sym, _∙_}
 use mathlib.Core.Logic.{⊎-elim, inl, inr}
 use Prim.Native.Nat.{_-_}
 use native.Mathlib.Omega.{arith}
-use lib.ListN.{length}
+use lib.ListN.{length, take, drop}
 use borrow.Author.Needs.{needs}
-use Rattle.table.specs.Digits.{ratesIn}
+use Rattle.units.specs.Limits.{MOST-RATE}
+use Rattle.table.specs.Digits.{numberOf, ratesIn}
 use Rattle.table.proofs.Numerals.{Listing, listing-none, word-in, listing-bad, rate-most, listing-all, listing-more}
 use Rattle.table.proofs.rates.rates_of.Statement.{statement}
 use Rattle.table.proofs.rates.rates_of.Tie as tie
 
 abbrev Inv-loop : tie.InvT-loop
-Inv-loop s values₀ count₀ at₀ values count at = Listing s values count at
+Inv-loop s most values₀ count₀ at₀ values count at = Listing s values count at
 
 abbrev μ-loop : tie.MeasureT-loop
-μ-loop s values₀ count₀ at₀ values count at = length s - at
+μ-loop s most values₀ count₀ at₀ values count at = length s - at
 
 loop-holds : tie.Need-loop-holds Inv-loop μ-loop
 loop-holds c = listing-none _
@@ -43,17 +44,24 @@ enum-told c = search needs
 none-requires : tie.Need-none-requires Inv-loop μ-loop
 none-requires c κs = search needs
 
+-- what was read of the word at hand
+read : (c : tie.After-number-of Inv-loop μ-loop)
+    → let w = c .before .before in
+    let s = w .before .before .before .before .args .s .now in
+    c .number-of .result ≡ numberOf (take (w .word-end .result - w .before .loop .at) (drop (w .before .loop .at) s)) 0 (MOST-RATE .0)
+read c = rw (c .before .before .before .before .tokens .ensures) at (c .number-of .ensures)
+
 returns : tie.Need-returns Inv-loop μ-loop
 returns c =
     let b = c .before .before .before in
     let g = b .before .before .before .loop .inv in
-    c .none .ensures ∙ sym (ap ratesIn (listing-bad g (b .before .before .word-end .ensures) (b .number-of .ensures) (c .before .enum-told .given .1)))
+    c .none .ensures ∙ sym (ap ratesIn (listing-bad g (b .before .before .word-end .ensures) (read b) (c .before .enum-told .given .1)))
 
 cast-values : tie.Need-cast-values Inv-loop μ-loop
 cast-values c =
     let b = c .before .before .before .before in
     let g = b .before .before .before .loop .inv in
-    omega (arith, rate-most g (b .before .before .word-end .ensures) (b .number-of .ensures) (c .before .before .rate .given .1))
+    omega (arith, rate-most g (b .before .before .word-end .ensures) (read b) (c .before .before .rate .given .1))
 
 array-write-values : tie.Need-array-write-values Inv-loop μ-loop
 array-write-values c = search needs
@@ -65,14 +73,14 @@ returns-2 : tie.Need-returns-2 Inv-loop μ-loop
 returns-2 c =
     let b = c .before .before .before .before .before in
     let g = b .before .before .before .loop .inv in
-    listing-all g (b .before .before .word-end .ensures) (b .number-of .ensures) (c .before .before .before .rate .given .1)
+    listing-all g (b .before .before .word-end .ensures) (read b) (c .before .before .before .rate .given .1)
     (⊎-elim (λ w. inl (w .0 .taken, w .1)) (λ w. inr (w .0 .left, w .1)) (c .before .if1 .came)) (c .if2 .taken)
 
 loop-again : tie.Need-loop-again Inv-loop μ-loop
 loop-again c =
     let b = c .before .before .before .before .before in
     let g = b .before .before .before .loop .inv in
-    listing-more g (b .before .before .word-end .ensures) (b .number-of .ensures) (c .before .before .before .rate .given .1)
+    listing-more g (b .before .before .word-end .ensures) (read b) (c .before .before .before .rate .given .1)
     (⊎-elim (λ w. inl (w .0 .taken, w .1)) (λ w. inr (w .0 .left, w .1)) (c .before .if1 .came)) (c .if2 .left)
 
 add-at : tie.Need-add-at Inv-loop μ-loop
@@ -87,6 +95,7 @@ rates-of-spec =
     (tie.spec
     Inv-loop
     μ-loop
+    (λ c κs. search needs)
     loop-holds
     word-end-requires
     sub-number-of

@@ -2,8 +2,8 @@
 use borrow.Author.Needs.{needs}
 use borrow.Author.Tests.{eq-eqb, ne-eqb}
 use mathlib.Core.Path.{_∙_}
-use Rattle.table.specs.Judge.{actorListed}
 use Rattle.numbers.specs.Bits.{has-is}
+use Rattle.table.specs.Judge.{actorListed}
 use Rattle.table.proofs.row.actor_refusal.Statement.{statement}
 use Rattle.table.proofs.row.actor_refusal.Tie as tie
 

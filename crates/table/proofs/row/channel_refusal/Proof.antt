@@ -4,8 +4,8 @@ use borrow.Author.Tests.{le-leb, lt-leb}
 use mathlib.Core.Path.{_≡_, sym, ap, _∙_}
 use mathlib.Core.Bool.{false, not}
 use lib.Dec.{leb}
-use Rattle.terms.specs.Limits.{CHANNELS}
 use Rattle.numbers.specs.Bits.{hasb}
+use Rattle.units.specs.Limits.{CHANNELS}
 use Rattle.table.specs.Judge.{channelListed}
 use Rattle.table.proofs.Listing.{lacks-is, cond-same}
 use Rattle.table.proofs.row.channel_refusal.Statement.{statement}

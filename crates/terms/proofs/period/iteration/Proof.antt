@@ -5,6 +5,7 @@ use Prim.Native.Nat.{ℕ, _*_, _/_, _≤_, _<_}
 use native.Mathlib.Nat.{le-div-iff-mul-le, div-lt-iff-lt-mul, mul-comm}
 use native.Mathlib.Omega.{arith}
 use Rattle.numbers.specs.Extreme.{least-unique}
+use Rattle.numbers.specs.Quotient.{RoundedUp}
 use Rattle.terms.proofs.period.iteration.Statement.{statement}
 use Rattle.terms.proofs.period.iteration.Tie as tie
 
@@ -15,23 +16,45 @@ within l r limit pos h = omega (arith, le-div-iff-mul-le pos .0 h, mul-comm l r)
 above : (l r limit : ℕ) → 0 < l → limit / l < r → limit < l * r
 above l r limit pos h = omega (arith, div-lt-iff-lt-mul pos .0 h, mul-comm l r)
 
-mul-t8 : tie.Need-mul-t8
-mul-t8 c =
+rounded : (c : tie.After-rounded-up)
+    → let a = c .before .before .before .args in RoundedUp (a .work .0) (a .common .0) (c .rounded-up .result)
+rounded c = rw (c .before .ticks .ensures, c .before .before .firings .ensures) at (c .rounded-up .ensures)
+
+fits : (c : tie.Then1)
+    → let a = c .before .before .before .before .before .args in c .before .before .rounded-up .result ≤ a .limit .0 / a .common .0
+fits c = rw (c .before .ticks2 .ensures, c .before .before .before .before .firings .ensures) at (c .if1 .taken)
+
+mul-of : tie.Need-mul-of
+mul-of c =
     let s = c .before .before .before .before .before in
-    omega (arith, within (s .args .common .0) (c .before .before .before .before .rounded-up .result) (s .args .limit .0) (s .pre) (c .before .if1 .taken))
+    rw (c .before .before .before .before .firings .ensures) (omega (arith, within (s .args .common .0) (c .before .before .rounded-up .result) (s .args .limit .0) (s .pre) (fits c)))
 
 returns : tie.Need-returns
 returns c =
-    let r = c .before .before .before .before .rounded-up in
-    let s = c .before .before .before .before .before in
-    ((r .result, r .ensures, refl), within (s .args .common .0) (r .result) (s .args .limit .0) (s .pre) (c .before .if1 .taken))
+    let h = c .before .before .before in
+    let s = h .before .before .before in
+    rw (c .of .ensures, h .before .before .firings .ensures)
+    ((h .rounded-up .result, rounded h, refl), within (s .args .common .0) (h .rounded-up .result) (s .args .limit .0) (s .pre) (fits (c .before)))
 
 returns-2 : tie.Need-returns-2
-returns-2 c h (n, p, e) =
-    let r = c .before .before .before .rounded-up in
-    let s = c .before .before .before .before in
-    let same : r .result ≡ n = least-unique _ (r .ensures) p in
-    omega (arith, e, above (s .args .common .0) n (s .args .limit .0) (s .pre) (rw same at (c .if1 .left)))
+returns-2 c =
+    λ h (n, p, e).
+    let r = c .before .before in
+    let s = r .before .before .before in
+    let same : r .rounded-up .result ≡ n = least-unique _ (rounded r) p in
+    let long = rw (c .before .ticks2 .ensures, r .before .before .firings .ensures, same) at (c .if1 .left) in
+    omega (arith, e, above (s .args .common .0) n (s .args .limit .0) (s .pre) long)
 
 pub iteration-spec : {M : Type 1} → statement M
-iteration-spec = tie.close (tie.spec (λ c κs. search needs) (λ c. search needs) mul-t8 returns returns-2)
+iteration-spec =
+    tie.close
+    (tie.spec
+    (λ c κs. search needs)
+    (λ c κs. search needs)
+    (λ c κs. search needs)
+    (λ c κs. search needs)
+    (λ c. search needs)
+    mul-of
+    (λ c κs. search needs)
+    returns
+    returns-2)

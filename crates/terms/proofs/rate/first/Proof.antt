@@ -3,13 +3,13 @@ use mathlib.Core.Path.{_≡_, refl}
 use Prim.Native.Nat.{_-_, _*_, _≤_}
 use native.Mathlib.Omega.{arith}
 use Rattle.numbers.specs.Sum.{sum, sum-next}
-use Rattle.terms.specs.Limits.{MOST-RATE}
+use Rattle.units.specs.Limits.{MOST-RATE}
 use Rattle.terms.specs.Rate.{rateOf, rate-in}
 use Rattle.terms.proofs.rate.first.Statement.{statement}
 use Rattle.terms.proofs.rate.first.Tie as tie
 
 abbrev Inv-loop : tie.InvT-loop
-Inv-loop rates k total₀ i₀ total i = (i ≤ k) × (total ≡ sum (rateOf rates) i) × (total ≤ i * MOST-RATE)
+Inv-loop rates k total₀ i₀ total i = (i ≤ k) × (total ≡ sum (rateOf rates) i) × (total ≤ i * MOST-RATE .0)
 
 abbrev μ-loop : tie.MeasureT-loop
 μ-loop rates k total₀ i₀ total i = k - i

@@ -5,7 +5,7 @@ use Prim.Native.Nat.{_-_}
 use native.Mathlib.Omega.{arith}
 use lib.ListN.{getD}
 use Rattle.numbers.specs.Filled.{FilledBy, filled-none, filled-set, filled-left, filled-all}
-use Rattle.terms.specs.Limits.{MODES}
+use Rattle.units.specs.Limits.{MODES}
 use Rattle.graph.specs.Shape.{modeAt}
 use Rattle.whole.specs.Whole.{noPart, runningOf}
 use Rattle.whole.specs.Steps.{idleRunning}
