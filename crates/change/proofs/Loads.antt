@@ -19,7 +19,7 @@ use Rattle.units.specs.Limits.{ACTORS, MOST-WCET}
 use Rattle.units.specs.Ticks.{tick}
 use Rattle.units.specs.declared.Tick.{Tick}
 use Rattle.units.specs.declared.Firing.{Firing}
-use Rattle.terms.specs.Period.{workOf, partOf}
+use Rattle.period.specs.Period.{workOf, partOf}
 use Rattle.graph.specs.declared.shape.Actor.{Actor}
 use Rattle.change.specs.declared.Running.{Running}
 use Rattle.change.specs.Work.{Fitting, actorAt, firingsAt, tickAt, between, countedOf, workBetween}

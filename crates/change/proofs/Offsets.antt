@@ -18,7 +18,7 @@ use Rattle.numbers.specs.declared.fraction.Fraction.{Fraction}
 use Rattle.units.specs.Limits.{ACTORS, PROCESSORS, LOAD-LIMIT}
 use Rattle.units.specs.Ticks.{tick, minusTicks, greaterTick}
 use Rattle.units.specs.declared.Tick.{Tick}
-use Rattle.terms.specs.Period.{partOf}
+use Rattle.period.specs.Period.{partOf}
 use Rattle.change.specs.declared.Running.{Running}
 use Rattle.change.specs.Work.{tickAt}
 use Rattle.change.specs.Change.{Runs, actorIn, startOf, askedOf, loadAt, Bearable, Bears, Overlap, Offset, Ready}

@@ -13,7 +13,7 @@ use Rattle.units.specs.Bounds.{MOST-START}
 use Rattle.units.specs.Limits.{ACTORS, PROCESSORS, ITERATION-LIMIT, LOAD-LIMIT}
 use Rattle.units.specs.Ticks.{tick}
 use Rattle.units.specs.declared.Tick.{Tick}
-use Rattle.terms.specs.Period.{partOf}
+use Rattle.period.specs.Period.{partOf}
 use Rattle.graph.specs.declared.shape.Actor.{Actor}
 use Rattle.graph.specs.Shape.{noActor}
 use Rattle.graph.specs.Proper.{ProperActor}

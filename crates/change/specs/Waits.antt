@@ -10,7 +10,7 @@ use Rattle.numbers.specs.declared.fraction.Fraction.{Fraction}
 use Rattle.units.specs.Limits.{ACTORS, ITERATION-LIMIT}
 use Rattle.units.specs.Ticks.{tick, minusTicks}
 use Rattle.units.specs.declared.Tick.{Tick}
-use Rattle.terms.specs.Period.{partOf}
+use Rattle.period.specs.Period.{partOf}
 use Rattle.change.specs.declared.Running.{Running}
 use Rattle.change.specs.declared.wait.Side.{Side}
 use Rattle.change.specs.Work.{tickAt}

@@ -13,7 +13,7 @@ use Rattle.units.specs.Firings.{firing}
 use Rattle.units.specs.Ticks.{tick}
 use Rattle.units.specs.declared.Tick.{Tick}
 use Rattle.units.specs.declared.Firing.{Firing}
-use Rattle.terms.specs.Period.{workOf}
+use Rattle.period.specs.Period.{workOf}
 use Rattle.graph.specs.declared.shape.Actor.{Actor}
 use Rattle.graph.specs.Shape.{noActor}
 use Rattle.change.specs.declared.Running.{Running}

@@ -4,7 +4,6 @@ use bits::has;
 use numbers::fraction::Fraction;
 use numbers::fraction::at_most;
 use numbers::fraction::plus;
-use terms::period;
 use units::Tick;
 use units::limits::ACTORS;
 use units::limits::LOAD_LIMIT;

@@ -1,6 +1,5 @@
 // The work of the actors that start between two ticks.
 use graph::shape::Actor;
-use terms::period;
 use units::Firing;
 use units::Tick;
 use units::limits::ACTORS;

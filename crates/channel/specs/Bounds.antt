@@ -18,10 +18,10 @@ use Rattle.units.specs.Tokens.{token, plusTokens, timesTokens}
 use Rattle.units.specs.Bounds.{MOST-TOKENS, MOST-START, MOST-SIZE}
 use Rattle.units.specs.Limits.{PHASES, MOST-RATE, ITERATION-LIMIT}
 use Rattle.units.specs.Firings.{firing}
-use Rattle.terms.specs.Period.{beginsAt, endsAt}
-use Rattle.terms.specs.declared.pace.Step.{Step}
-use Rattle.terms.specs.Pace.{IsStep, step-unique}
-use Rattle.terms.specs.Rate.{rateOf, tokensOf}
+use Rattle.period.specs.Period.{beginsAt, endsAt}
+use Rattle.rate.specs.declared.pace.Step.{Step}
+use Rattle.rate.specs.Pace.{IsStep, step-unique}
+use Rattle.rate.specs.Rate.{rateOf, tokensOf}
 use Rattle.channel.specs.declared.End.{End}
 use Rattle.channel.specs.declared.pace.Pace.{Pace}
 use Rattle.channel.specs.declared.waits.Mark.{Mark}

@@ -11,8 +11,8 @@ use Rattle.units.specs.Ticks.{timesTicks}
 use Rattle.units.specs.Tokens.{token, timesTokens}
 use Rattle.units.specs.Limits.{PHASES, MOST-RATE, ITERATION-LIMIT}
 use Rattle.units.specs.Firings.{firing}
-use Rattle.terms.specs.Period.{next, beginsAt, HaveBegun, HaveEnded}
-use Rattle.terms.specs.Rate.{rateOf, tokensOf}
+use Rattle.period.specs.Period.{next, beginsAt, HaveBegun, HaveEnded}
+use Rattle.rate.specs.Rate.{rateOf, tokensOf}
 use Rattle.channel.specs.declared.End.{End}
 
 -- the rates of an end, one for each phase

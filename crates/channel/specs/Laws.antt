@@ -19,8 +19,8 @@ use Rattle.units.specs.Ticks.{tick}
 use Rattle.units.specs.Tokens.{token}
 use Rattle.units.specs.Limits.{MOST-RATE, ITERATION-LIMIT}
 use Rattle.units.specs.Firings.{firing}
-use Rattle.terms.specs.Period.{beginsAt}
-use Rattle.terms.specs.Rate.{rateOf, rate-in, rate-cycle}
+use Rattle.period.specs.Period.{beginsAt}
+use Rattle.rate.specs.Rate.{rateOf, rate-in, rate-cycle}
 use Rattle.channel.specs.declared.End.{End}
 use Rattle.channel.specs.Flow.{ratesOf, cycleTokens, cycleTicks, Fed, Claimed, IsSize, Proper, Paced}
 use Rattle.channel.specs.Cycles.{Matched, matched, factor-pos}

@@ -12,7 +12,7 @@ use Rattle.numbers.specs.Sum.{sum, sum-next, sum-more, sum-longer, rounds, sum-
 use Rattle.units.specs.declared.Tick.{Tick}
 use Rattle.units.specs.declared.Firing.{Firing}
 use Rattle.units.specs.Ticks.{tick}
-use Rattle.terms.specs.Period.{HaveBegun, HaveEnded, begun-before, begun-since, ended-before, ended-since}
+use Rattle.period.specs.Period.{HaveBegun, HaveEnded, begun-before, begun-since, ended-before, ended-since}
 use Rattle.channel.specs.Cycles.{Matched, covered, reached, apart}
 
 pub at-most : {a b : ℕ} → (b < a → ⊥) → a ≤ b

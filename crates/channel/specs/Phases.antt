@@ -9,10 +9,10 @@ use Rattle.units.specs.declared.Token.{Token}
 use Rattle.units.specs.Ticks.{tick, plusTicks, timesTicks, restTicks}
 use Rattle.units.specs.Tokens.{token, greaterToken, plusTokens, timesTokens, restTokens}
 use Rattle.units.specs.Firings.{firing}
-use Rattle.terms.specs.Period.{beginsAt, endsAt}
-use Rattle.terms.specs.Rate.{rateOf, tokensOf}
-use Rattle.terms.specs.Pace.{lastingOf, movingOf}
-use Rattle.terms.specs.declared.pace.Step.{Step}
+use Rattle.period.specs.Period.{beginsAt, endsAt}
+use Rattle.rate.specs.Rate.{rateOf, tokensOf}
+use Rattle.rate.specs.Pace.{lastingOf, movingOf}
+use Rattle.rate.specs.declared.pace.Step.{Step}
 use Rattle.channel.specs.declared.End.{End}
 use Rattle.channel.specs.declared.pace.Pace.{Pace}
 use Rattle.channel.specs.declared.waits.Mark.{Mark}

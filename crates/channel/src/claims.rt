@@ -1,9 +1,8 @@
 // The places that a producer's phases claim while those of the consumer have not given theirs back.
 use crate::End;
 use crate::pace::Pace;
-use terms::period::begins;
-use terms::period::ends;
-use terms::rate;
+use period::begins;
+use period::ends;
 use units::Tick;
 use units::Token;
 use units::limits::PHASES;

@@ -1,8 +1,7 @@
 // What the two ends of a channel have in common.
 use crate::End;
-use terms::pace::Step;
-use terms::pace::step_of;
-use terms::rate;
+use rate::pace::Step;
+use rate::pace::step_of;
 use units::Tick;
 use units::Token;
 ghost use mathlib.Core.Path.{_≡_};

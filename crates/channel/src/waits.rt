@@ -1,9 +1,8 @@
 // The waits of a consumer's phases for those of the producer.
 use crate::End;
 use crate::pace::Pace;
-use terms::period::begins;
-use terms::period::ends;
-use terms::rate;
+use period::begins;
+use period::ends;
 use units::Tick;
 use units::Token;
 use units::limits::PHASES;

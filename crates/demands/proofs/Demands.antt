@@ -11,7 +11,7 @@ use Rattle.units.specs.declared.Tick.{Tick}
 use Rattle.units.specs.declared.Firing.{Firing}
 use Rattle.units.specs.Ticks.{tick}
 use Rattle.units.specs.Firings.{firing}
-use Rattle.terms.specs.Period.{periodOf}
+use Rattle.period.specs.Period.{periodOf}
 use Rattle.terms.specs.declared.refusal.Refusal.{Refusal}
 use Rattle.table.specs.declared.Answer.{Answer as ReadAnswer}
 use Rattle.table.specs.declared.Answer.the-variants.{Read, Refused as NotRead}

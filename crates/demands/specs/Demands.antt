@@ -11,7 +11,7 @@ use Rattle.units.specs.Ticks.{tick}
 use Rattle.units.specs.Tokens.{token}
 use Rattle.units.specs.Limits.{ITERATION-LIMIT}
 use Rattle.units.specs.Firings.{firing}
-use Rattle.terms.specs.Period.{periodOf}
+use Rattle.period.specs.Period.{periodOf}
 use Rattle.terms.specs.declared.refusal.Refusal.{Refusal}
 use Rattle.table.specs.declared.Answer.the-variants.{Refused as NotRead}
 use Rattle.table.specs.Told.{Told}

@@ -21,9 +21,9 @@ use Rattle.units.specs.declared.Token.{Token}
 use Rattle.units.specs.Bounds.{MOST-CYCLES}
 use Rattle.units.specs.Limits.{ACTORS, PHASES, MOST-RATE}
 use Rattle.units.specs.Tokens.{timesTokens}
-use Rattle.terms.specs.declared.rate.Meeting.{Meeting}
-use Rattle.terms.specs.Rate.{rateOf, rate-in}
-use Rattle.terms.specs.Reckoned.{meetOf}
+use Rattle.rate.specs.declared.Meeting.{Meeting}
+use Rattle.rate.specs.Rate.{rateOf, rate-in}
+use Rattle.rate.specs.Reckoned.{meetOf}
 use Rattle.graph.specs.declared.shape.Mode.{Mode}
 use Rattle.graph.specs.declared.balance.Counts.{Counts}
 use Rattle.graph.specs.declared.balance.Flow.{Flow}

@@ -10,8 +10,8 @@ use Rattle.numbers.specs.Bits.{size}
 use Rattle.units.specs.declared.Tick.{Tick}
 use Rattle.units.specs.declared.Firing.{Firing}
 use Rattle.units.specs.Limits.{ACTORS, ITERATION-LIMIT}
-use Rattle.terms.specs.declared.period.Length.{Length}
-use Rattle.terms.specs.declared.period.Length.the-variants.{Is, Above as TooLong}
+use Rattle.period.specs.declared.Length.{Length}
+use Rattle.period.specs.declared.Length.the-variants.{Is, Above as TooLong}
 use Rattle.graph.specs.declared.shape.Mode.{Mode}
 use Rattle.graph.specs.declared.Verdict.the-variants.{Unbalanced as IsUnbalanced, Overloaded as IsOverloaded, Ends as HasNoEnds, Cyclic as IsCyclic}
 use Rattle.graph.specs.Shape.{Active}

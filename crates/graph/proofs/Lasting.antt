@@ -22,12 +22,12 @@ use Rattle.units.specs.Ticks.{tick, greaterTick}
 use Rattle.units.specs.Bounds.{MOST-FIRINGS, MOST-CYCLES}
 use Rattle.units.specs.Limits.{ACTORS, PHASES, MOST-WCET, ITERATION-LIMIT}
 use Rattle.units.specs.Firings.{firing}
-use Rattle.terms.specs.declared.period.Firings.{Firings}
-use Rattle.terms.specs.declared.period.Firings.the-variants.{Are, Above}
-use Rattle.terms.specs.declared.period.Length.{Length}
-use Rattle.terms.specs.declared.period.Length.the-variants.{Is, Above as TooLong}
-use Rattle.terms.specs.Period.{workOf, periodOf, CommonWithin, IterationIs, IterationWithin}
-use Rattle.terms.specs.Reckoned.{commonOf, common-of, common-is, lengthOf as reckonedOf, iteration-of}
+use Rattle.period.specs.declared.Firings.{Firings}
+use Rattle.period.specs.declared.Firings.the-variants.{Are, Above}
+use Rattle.period.specs.declared.Length.{Length}
+use Rattle.period.specs.declared.Length.the-variants.{Is, Above as TooLong}
+use Rattle.period.specs.Period.{workOf, periodOf, CommonWithin, IterationIs, IterationWithin}
+use Rattle.period.specs.Reckoned.{commonOf, common-of, common-is, lengthOf as reckonedOf, iteration-of}
 use Rattle.graph.specs.declared.shape.Actor.{Actor}
 use Rattle.graph.specs.declared.shape.Mode.{Mode}
 use Rattle.graph.specs.Shape.{noActor, actorAt, Active}

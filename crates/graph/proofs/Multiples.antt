@@ -17,9 +17,9 @@ use Rattle.units.specs.declared.Token.{Token}
 use Rattle.units.specs.Bounds.{MOST-CYCLES}
 use Rattle.units.specs.Limits.{ACTORS}
 use Rattle.units.specs.Tokens.{timesTokens}
-use Rattle.terms.specs.declared.rate.Meeting.{Meeting}
-use Rattle.terms.specs.Rate.{Meets}
-use Rattle.terms.specs.Reckoned.{meetOf, meet-of}
+use Rattle.rate.specs.declared.Meeting.{Meeting}
+use Rattle.rate.specs.Rate.{Meets}
+use Rattle.rate.specs.Reckoned.{meetOf, meet-of}
 use Rattle.graph.specs.declared.shape.Mode.{Mode}
 use Rattle.graph.specs.declared.balance.Counts.{Counts}
 use Rattle.graph.specs.Shape.{channelAt, Active}

@@ -22,7 +22,7 @@ use Rattle.units.specs.declared.Tick.{Tick}
 use Rattle.units.specs.Ticks.{tick, plusTicks}
 use Rattle.units.specs.Bounds.{MOST-CYCLES}
 use Rattle.units.specs.Limits.{ACTORS, PHASES, MOST-WCET, PROCESSORS, LOAD-LIMIT}
-use Rattle.terms.specs.Period.{partOf}
+use Rattle.period.specs.Period.{partOf}
 use Rattle.graph.specs.declared.shape.Actor.{Actor}
 use Rattle.graph.specs.declared.shape.Mode.{Mode}
 use Rattle.graph.specs.Shape.{noActor, actorAt}

@@ -10,8 +10,8 @@ use Rattle.units.specs.declared.Token.{Token}
 use Rattle.units.specs.Limits.{ITERATION-LIMIT}
 use Rattle.units.specs.Firings.{firing}
 use Rattle.units.specs.Tokens.{timesTokens}
-use Rattle.terms.specs.Period.{workOf, IterationIs}
-use Rattle.terms.specs.Rate.{tokensOf, cyclesOf}
+use Rattle.period.specs.Period.{workOf, IterationIs}
+use Rattle.rate.specs.Rate.{tokensOf, cyclesOf}
 use Rattle.graph.specs.declared.shape.Mode.{Mode}
 use Rattle.graph.specs.Shape.{actorAt, channelAt, Active}
 

@@ -10,8 +10,8 @@ use Rattle.numbers.specs.Tab.{tab}
 use Rattle.units.specs.Bounds.{MOST-CYCLES}
 use Rattle.units.specs.Limits.{ACTORS, PHASES, MOST-RATE}
 use Rattle.units.specs.Tokens.{timesTokens}
-use Rattle.terms.specs.declared.rate.Meeting.{Meeting}
-use Rattle.terms.specs.Reckoned.{meetOf}
+use Rattle.rate.specs.declared.Meeting.{Meeting}
+use Rattle.rate.specs.Reckoned.{meetOf}
 use Rattle.graph.specs.declared.shape.Actor.{Actor}
 use Rattle.graph.specs.declared.shape.Channel.{Channel}
 use Rattle.graph.specs.declared.shape.Mode.{Mode}

@@ -7,8 +7,8 @@ use Rattle.numbers.specs.Bits.{size}
 use Rattle.units.specs.declared.Tick.{Tick}
 use Rattle.units.specs.declared.Firing.{Firing}
 use Rattle.units.specs.Limits.{ACTORS}
-use Rattle.terms.specs.declared.period.Length.{Length}
-use Rattle.terms.specs.declared.period.Length.the-variants.{Is, Above as TooLong}
+use Rattle.period.specs.declared.Length.{Length}
+use Rattle.period.specs.declared.Length.the-variants.{Is, Above as TooLong}
 use Rattle.graph.specs.declared.shape.Mode.{Mode}
 use Rattle.graph.specs.declared.Verdict.the-variants.{Cyclic, Ends, Unbalanced, Overloaded, Sound}
 use Rattle.graph.specs.declared.Judgement.{Judgement}

@@ -11,7 +11,7 @@ use Rattle.units.specs.declared.Tick.{Tick}
 use Rattle.units.specs.Ticks.{tick}
 use Rattle.units.specs.Limits.{ACTORS, PROCESSORS, ITERATION-LIMIT}
 use Rattle.units.specs.Firings.{firing}
-use Rattle.terms.specs.Period.{periodOf}
+use Rattle.period.specs.Period.{periodOf}
 use Rattle.graph.specs.declared.shape.Mode.{Mode}
 use Rattle.graph.specs.declared.Verdict.{Verdict}
 use Rattle.graph.specs.declared.Verdict.the-variants.{Cyclic as IsCyclic, Ends as HasNoEnds, Unbalanced as IsUnbalanced, Overloaded as IsOverloaded, Sound as IsSound}

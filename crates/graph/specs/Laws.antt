@@ -8,7 +8,7 @@ use Rattle.numbers.specs.Quotient.{RoundedUp, rounded-times}
 use Rattle.units.specs.declared.Tick.{Tick}
 use Rattle.units.specs.Ticks.{tick}
 use Rattle.units.specs.Firings.{firing}
-use Rattle.terms.specs.Period.{periodOf, iteration-unique}
+use Rattle.period.specs.Period.{periodOf, iteration-unique}
 use Rattle.graph.specs.declared.shape.Mode.{Mode}
 use Rattle.graph.specs.Shape.{actorAt, Active}
 use Rattle.graph.specs.Proper.{ProperMode}

@@ -15,13 +15,13 @@ use Rattle.units.specs.Ticks.{tick, greaterTick, plusTicks}
 use Rattle.units.specs.Bounds.{MOST-FIRINGS, MOST-CYCLES}
 use Rattle.units.specs.Limits.{ACTORS, PHASES, MOST-WCET, PROCESSORS, ITERATION-LIMIT, LOAD-LIMIT}
 use Rattle.units.specs.Firings.{firing}
-use Rattle.terms.specs.declared.period.Firings.{Firings}
-use Rattle.terms.specs.declared.period.Firings.the-variants.{Are, Above}
-use Rattle.terms.specs.declared.period.Length.{Length}
-use Rattle.terms.specs.declared.period.Length.the-variants.{Above as TooLong}
-use Rattle.terms.specs.Period.{workOf, periodOf, partOf}
-use Rattle.terms.specs.Rate.{cyclesOf}
-use Rattle.terms.specs.Reckoned.{commonOf, iterationOf}
+use Rattle.period.specs.declared.Firings.{Firings}
+use Rattle.period.specs.declared.Firings.the-variants.{Are, Above}
+use Rattle.period.specs.declared.Length.{Length}
+use Rattle.period.specs.declared.Length.the-variants.{Above as TooLong}
+use Rattle.period.specs.Period.{workOf, periodOf, partOf}
+use Rattle.period.specs.Reckoned.{commonOf, iterationOf}
+use Rattle.rate.specs.Rate.{cyclesOf}
 use Rattle.graph.specs.declared.shape.Actor.{Actor}
 use Rattle.graph.specs.Shape.{noActor}
 

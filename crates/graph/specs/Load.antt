@@ -9,7 +9,7 @@ use Rattle.numbers.specs.declared.fraction.Fraction.{Fraction}
 use Rattle.units.specs.declared.Tick.{Tick}
 use Rattle.units.specs.Ticks.{tick}
 use Rattle.units.specs.Limits.{ACTORS, PROCESSORS, LOAD-LIMIT}
-use Rattle.terms.specs.Period.{periodOf, partOf}
+use Rattle.period.specs.Period.{periodOf, partOf}
 use Rattle.graph.specs.declared.shape.Mode.{Mode}
 use Rattle.graph.specs.Shape.{actorAt}
 use Rattle.graph.specs.Balance.{firingsOf, workIn}

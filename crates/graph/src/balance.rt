@@ -3,7 +3,6 @@ use crate::shape::Actor;
 use crate::shape::Channel;
 use crate::shape::Mode;
 use bits::has;
-use terms::rate;
 use units::Token;
 use units::bounds::MOST_CYCLES;
 use units::limits::ACTORS;

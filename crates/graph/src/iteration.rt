@@ -1,10 +1,8 @@
 // The length of a mode's iteration, and the periods of its actors.
 use crate::shape::Actor;
 use bits::has;
-use terms::period;
-use terms::period::Firings;
-use terms::period::Length;
-use terms::rate;
+use period::Firings;
+use period::Length;
 use units::Firing;
 use units::Tick;
 use units::bounds::MOST_FIRINGS;

@@ -7,8 +7,8 @@ mod order;
 pub mod shape;
 
 use bits::size;
+use period::Length;
 use shape::Mode;
-use terms::period::Length;
 use units::Firing;
 use units::Tick;
 use units::limits::ACTORS;

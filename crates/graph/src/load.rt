@@ -1,7 +1,6 @@
 // What the actors of a mode ask of the processors.
 use crate::shape::Actor;
 use numbers::fraction::at_most;
-use terms::period;
 use units::Tick;
 use units::limits::ACTORS;
 use units::limits::LOAD_LIMIT;

@@ -12,7 +12,7 @@ use Rattle.units.specs.declared.Token.{Token}
 use Rattle.units.specs.Ticks.{tick}
 use Rattle.units.specs.Tokens.{token}
 use Rattle.units.specs.Firings.{firing}
-use Rattle.terms.specs.Rate.{rateOf}
+use Rattle.rate.specs.Rate.{rateOf}
 use Rattle.graph.specs.declared.shape.Mode.{Mode}
 use Rattle.graph.specs.Shape.{channelAt, Active}
 use Rattle.graph.specs.Proper.{ProperMode}

@@ -9,7 +9,7 @@ use Rattle.units.specs.Limits.{MODES, ACTORS}
 use Rattle.units.specs.Firings.{firing}
 use Rattle.units.specs.Ticks.{tick}
 use Rattle.units.specs.Tokens.{token}
-use Rattle.terms.specs.Rate.{rateOf}
+use Rattle.rate.specs.Rate.{rateOf}
 use Rattle.graph.specs.declared.shape.Mode.{Mode}
 use Rattle.graph.specs.declared.shape.Table.{Table}
 use Rattle.graph.specs.Shape.{actorAt, channelAt, modeAt}

@@ -19,8 +19,8 @@ use Rattle.units.specs.declared.Tick.{Tick}
 use Rattle.units.specs.declared.Firing.{Firing}
 use Rattle.units.specs.Ticks.{tick, timesTicks}
 use Rattle.units.specs.Firings.{firing}
-use Rattle.terms.specs.Period.{periodOf}
-use Rattle.terms.specs.Rate.{rateOf, rate-in}
+use Rattle.period.specs.Period.{periodOf}
+use Rattle.rate.specs.Rate.{rateOf, rate-in}
 use Rattle.graph.specs.declared.shape.Mode.{Mode}
 use Rattle.graph.specs.declared.Verdict.{Verdict}
 use Rattle.graph.specs.declared.Verdict.the-variants.{Cyclic as IsCyclic, Ends as HasNoEnds, Unbalanced as IsUnbalanced, Overloaded as IsOverloaded, Sound as IsSound}

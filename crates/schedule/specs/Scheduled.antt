@@ -14,7 +14,7 @@ use Rattle.units.specs.declared.Token.{Token}
 use Rattle.units.specs.Ticks.{tick}
 use Rattle.units.specs.Tokens.{token}
 use Rattle.units.specs.Firings.{firing}
-use Rattle.terms.specs.Rate.{tokensOf}
+use Rattle.rate.specs.Rate.{tokensOf}
 use Rattle.graph.specs.declared.shape.Mode.{Mode}
 use Rattle.graph.specs.declared.Judgement.{Judgement}
 use Rattle.graph.specs.Shape.{actorAt, channelAt}

@@ -1,8 +1,4 @@
--- The words and the two rules that the statements of the planner use.
-pub mod Period
-pub mod Rate
-pub mod Pace
-pub mod Reckoned
+-- Places, refusals and texts.
 pub mod Place
 pub mod Refusal
 pub mod Text

@@ -22,8 +22,8 @@ use Rattle.units.specs.declared.Token.{Token}
 use Rattle.units.specs.Ticks.{tick}
 use Rattle.units.specs.Tokens.{token}
 use Rattle.units.specs.Firings.{firing}
-use Rattle.terms.specs.Period.{periodOf}
-use Rattle.terms.specs.Rate.{rateOf}
+use Rattle.period.specs.Period.{periodOf}
+use Rattle.rate.specs.Rate.{rateOf}
 use Rattle.graph.specs.declared.shape.Mode.{Mode}
 use Rattle.graph.specs.declared.shape.Table.{Table}
 use Rattle.graph.specs.Shape.{modeAt, channelAt, Active}

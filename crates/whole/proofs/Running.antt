@@ -20,7 +20,7 @@ use Rattle.units.specs.declared.Tick.{Tick}
 use Rattle.units.specs.declared.Firing.{Firing}
 use Rattle.units.specs.Ticks.{tick}
 use Rattle.units.specs.Firings.{firing}
-use Rattle.terms.specs.Period.{periodOf, partOf}
+use Rattle.period.specs.Period.{periodOf, partOf}
 use Rattle.graph.specs.declared.shape.Mode.{Mode}
 use Rattle.graph.specs.declared.shape.Table.{Table}
 use Rattle.graph.specs.Shape.{modeAt, actorAt, Active, noActor}

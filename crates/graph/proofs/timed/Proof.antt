@@ -9,7 +9,7 @@ use Rattle.numbers.specs.Tab.{length-tab}
 use Rattle.units.specs.declared.Tick.{Tick}
 use Rattle.units.specs.declared.Firing.{Firing}
 use Rattle.units.specs.Limits.{PROCESSORS}
-use Rattle.terms.specs.declared.period.Length.the-variants.{Is}
+use Rattle.period.specs.declared.Length.the-variants.{Is}
 use Rattle.graph.specs.declared.shape.Mode.{Mode}
 use Rattle.graph.specs.declared.Verdict.the-variants.{Overloaded, Sound}
 use Rattle.graph.specs.Judged.{refusedBy}

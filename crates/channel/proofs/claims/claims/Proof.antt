@@ -10,8 +10,8 @@ use Rattle.units.specs.declared.Token.{Token}
 use Rattle.units.specs.Ticks.{tick, plusTicks}
 use Rattle.units.specs.Firings.{firing}
 use Rattle.units.specs.Limits.{PHASES}
-use Rattle.terms.specs.Period.{beginsAt}
-use Rattle.terms.specs.Rate.{tokensOf}
+use Rattle.period.specs.Period.{beginsAt}
+use Rattle.rate.specs.Rate.{tokensOf}
 use Rattle.channel.specs.Flow.{ratesOf}
 use Rattle.channel.specs.Phases.{noHold, claimingOf, claimingAt}
 use Rattle.channel.specs.Bounds.{endOf, Early, claiming-early, ends-by, tokens-by, rate-by, tokens-next}

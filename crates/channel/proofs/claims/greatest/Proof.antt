@@ -10,8 +10,8 @@ use Rattle.units.specs.declared.Tick.{Tick}
 use Rattle.units.specs.declared.Token.{Token}
 use Rattle.units.specs.Tokens.{token, greaterToken}
 use Rattle.units.specs.Firings.{firing}
-use Rattle.terms.specs.Period.{endsAt}
-use Rattle.terms.specs.Rate.{tokensOf}
+use Rattle.period.specs.Period.{endsAt}
+use Rattle.rate.specs.Rate.{tokensOf}
 use Rattle.channel.specs.declared.claims.Hold.{Hold}
 use Rattle.channel.specs.Flow.{ratesOf}
 use Rattle.channel.specs.Phases.{noHold, backOf, backAt, heldOf}

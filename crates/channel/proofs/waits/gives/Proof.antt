@@ -10,8 +10,8 @@ use Rattle.units.specs.declared.Token.{Token}
 use Rattle.units.specs.Tokens.{token, plusTokens}
 use Rattle.units.specs.Firings.{firing}
 use Rattle.units.specs.Limits.{PHASES}
-use Rattle.terms.specs.Period.{endsAt}
-use Rattle.terms.specs.Rate.{tokensOf}
+use Rattle.period.specs.Period.{endsAt}
+use Rattle.rate.specs.Rate.{tokensOf}
 use Rattle.channel.specs.Flow.{ratesOf}
 use Rattle.channel.specs.Phases.{noMark, giveOf, giveAt}
 use Rattle.channel.specs.Bounds.{endOf, Early, give-early, ends-by, tokens-by, rate-by, tokens-next}

@@ -10,8 +10,8 @@ use Rattle.units.specs.declared.Tick.{Tick}
 use Rattle.units.specs.declared.Token.{Token}
 use Rattle.units.specs.Ticks.{tick, greaterTick}
 use Rattle.units.specs.Firings.{firing}
-use Rattle.terms.specs.Period.{beginsAt}
-use Rattle.terms.specs.Rate.{tokensOf}
+use Rattle.period.specs.Period.{beginsAt}
+use Rattle.rate.specs.Rate.{tokensOf}
 use Rattle.channel.specs.declared.waits.Mark.{Mark}
 use Rattle.channel.specs.Flow.{ratesOf}
 use Rattle.channel.specs.Laws.{rate-at}

@@ -7,8 +7,8 @@ use native.Mathlib.Nat.{div-le-self}
 use native.Mathlib.Omega.{arith}
 use lib.ListN.{getD}
 use Rattle.numbers.specs.Reckoned.{gcdOf}
-use Rattle.terms.specs.declared.rate.Meeting.{Meeting}
-use Rattle.terms.specs.Reckoned.{meetOf, meet-is}
+use Rattle.rate.specs.declared.Meeting.{Meeting}
+use Rattle.rate.specs.Reckoned.{meetOf, meet-is}
 use Rattle.graph.specs.Counts.{withCount, metBy, fedOf}
 use Rattle.graph.proofs.Flows.{tokens-fit, fed-met, met-over, met-new}
 use Rattle.graph.proofs.balance.fed.Statement.{statement}

@@ -6,7 +6,7 @@ use Prim.Native.Nat.{_+_, _≤_, _-_}
 use native.Mathlib.Omega.{arith}
 use Rattle.numbers.specs.Bits.{has-is}
 use Rattle.units.specs.Limits.{ACTORS}
-use Rattle.terms.specs.declared.period.Firings.the-variants.{Are}
+use Rattle.period.specs.declared.Firings.the-variants.{Are}
 use Rattle.graph.specs.Lengths.{commonFrom}
 use Rattle.graph.proofs.Lasting.{common-next, common-stays, common-taken}
 use Rattle.graph.proofs.iteration.common_of.Statement.{statement}

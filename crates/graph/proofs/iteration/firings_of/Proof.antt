@@ -7,7 +7,7 @@ use lib.ListN.{getD}
 use Rattle.numbers.specs.Filled.{FilledBy, filled-none, filled-set, filled-all}
 use Rattle.units.specs.Limits.{ACTORS}
 use Rattle.units.specs.Firings.{firing}
-use Rattle.terms.specs.Rate.{cyclesOf}
+use Rattle.rate.specs.Rate.{cyclesOf}
 use Rattle.graph.specs.Shape.{noActor}
 use Rattle.graph.proofs.iteration.firings_of.Statement.{statement}
 use Rattle.graph.proofs.iteration.firings_of.Tie as tie

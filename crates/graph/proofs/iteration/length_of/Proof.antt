@@ -5,9 +5,9 @@ use Prim.Native.Nat.{_<_}
 use Rattle.units.specs.declared.Tick.{Tick}
 use Rattle.units.specs.declared.Firing.{Firing}
 use Rattle.units.specs.Limits.{ACTORS, ITERATION-LIMIT}
-use Rattle.terms.specs.declared.period.Firings.{Firings}
-use Rattle.terms.specs.declared.period.Firings.the-variants.{Are}
-use Rattle.terms.specs.Reckoned.{iterationOf, iteration-is}
+use Rattle.period.specs.declared.Firings.{Firings}
+use Rattle.period.specs.declared.Firings.the-variants.{Are}
+use Rattle.period.specs.Reckoned.{iterationOf, iteration-is}
 use Rattle.graph.specs.Lengths.{mostFrom, commonFrom, lengthBy}
 use Rattle.graph.proofs.Lasting.{common-pos}
 use Rattle.graph.proofs.iteration.length_of.Statement.{statement}

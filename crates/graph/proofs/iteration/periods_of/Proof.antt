@@ -12,7 +12,7 @@ use Rattle.numbers.specs.Filled.{FilledBy, filled-none, filled-set, filled-left
 use Rattle.units.specs.Ticks.{tick}
 use Rattle.units.specs.Limits.{ACTORS}
 use Rattle.units.specs.Firings.{firing}
-use Rattle.terms.specs.Period.{periodOf}
+use Rattle.period.specs.Period.{periodOf}
 use Rattle.graph.proofs.iteration.periods_of.Statement.{statement}
 use Rattle.graph.proofs.iteration.periods_of.Tie as tie
 

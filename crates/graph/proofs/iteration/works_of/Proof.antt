@@ -8,7 +8,7 @@ use Rattle.numbers.specs.Filled.{FilledBy, filled-none, filled-set, filled-all}
 use Rattle.units.specs.Ticks.{tick}
 use Rattle.units.specs.Limits.{ACTORS}
 use Rattle.units.specs.Firings.{firing}
-use Rattle.terms.specs.Period.{workOf}
+use Rattle.period.specs.Period.{workOf}
 use Rattle.graph.specs.Shape.{noActor}
 use Rattle.graph.proofs.iteration.works_of.Statement.{statement}
 use Rattle.graph.proofs.iteration.works_of.Tie as tie

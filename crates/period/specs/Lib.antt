@@ -1,0 +1,3 @@
+-- The period rule, and its model.
+pub mod Period
+pub mod Reckoned
