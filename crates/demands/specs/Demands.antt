@@ -12,6 +12,7 @@ use Rattle.units.specs.Tokens.{token}
 use Rattle.units.specs.Limits.{ITERATION-LIMIT}
 use Rattle.units.specs.Firings.{firing}
 use Rattle.period.specs.Period.{periodOf}
+use Rattle.terms.specs.Place.{numberOf}
 use Rattle.terms.specs.declared.refusal.Refusal.{Refusal}
 use Rattle.table.specs.declared.Answer.the-variants.{Refused as NotRead}
 use Rattle.table.specs.Told.{Told}
@@ -100,7 +101,7 @@ pub record Right (t : Table) (w : Whole) : Type 0 where
 pub data TableRefused (text : List ℕ) : Refusal → Type 0 where
   at-row : {r : Refusal} → Told text (record { answer = NotRead r; table = emptyTable }) → TableRefused text r
   at-mode : {t : Table} {k : ℕ} {r : Refusal} → Reads text t → Listed t k → ((l : ℕ) → l < k → Listed t l → (p : Part) × ModePlanned (modeAt t l) p)
-      → ModeRefused (modeAt t k) (suc k) r → TableRefused text r
+      → ModeRefused (modeAt t k) (numberOf k) r → TableRefused text r
 
 pub record Demand2 : Type 0 where
   -- an accepted table leaves a plan whose numbers are right ..

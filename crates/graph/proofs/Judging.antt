@@ -9,7 +9,7 @@ use lib.ListN.{getD}
 use Rattle.numbers.specs.Bits.{size}
 use Rattle.units.specs.declared.Tick.{Tick}
 use Rattle.units.specs.declared.Firing.{Firing}
-use Rattle.units.specs.Limits.{ACTORS, ITERATION-LIMIT}
+use Rattle.units.specs.Limits.{ACTORS, ITERATION-LIMIT, PROCESSORS}
 use Rattle.period.specs.declared.Length.{Length}
 use Rattle.period.specs.declared.Length.the-variants.{Is, Above as TooLong}
 use Rattle.graph.specs.declared.shape.Mode.{Mode}
@@ -54,12 +54,12 @@ module _ (m : Mode) (proper : ProperMode m) where
 
       module _ (even : balancesb m found (m .count) ≡ true) where
         by-load : (h : Tick) → Iteration m X h → h .0 ≤ ITERATION-LIMIT .0 → Judged m (loaded m ds s t found qs ws (Is h))
-        by-load h iteration within = go (eqb over 0) refl
+        by-load h iteration within = go (eqb over PROCESSORS) refl
           where
             over : ℕ
             over = overloadedOf (sharesIn (m .actors) ws) h
 
-            go : (b : Bool) → eqb over 0 ≡ b → Judged m (cond b (soundBy m ds s t found qs ws h) (refusedBy (IsOverloaded over)))
+            go : (b : Bool) → eqb over PROCESSORS ≡ b → Judged m (cond b (soundBy m ds s t found qs ws h) (refusedBy (IsOverloaded over)))
             go true e =
                 sound X acyclic
                 (record {

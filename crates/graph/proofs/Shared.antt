@@ -3,7 +3,7 @@ use mathlib.Core.Path.{_≡_, refl, sym, ap, _∙_}
 use mathlib.Core.Bool.{Bool, true, false, cond, not, _&&_}
 use mathlib.Core.List.{List}
 use mathlib.Core.Logic.{⊎-elim, _↔_}
-use Prim.Native.Nat.{ℕ, zero, suc, _+_, _-_, _*_, _≤_, _<_}
+use Prim.Native.Nat.{ℕ, zero, suc, _+_, _-_, _*_, _≤_, _<_, zero-le}
 use native.Mathlib.Nat.{le-refl, lt-of-lt-of-le, lt-of-not-le}
 use native.Mathlib.Numerals.{add-one}
 use native.Mathlib.Omega.{arith}
@@ -23,6 +23,7 @@ use Rattle.units.specs.Ticks.{tick, plusTicks}
 use Rattle.units.specs.Bounds.{MOST-CYCLES}
 use Rattle.units.specs.Limits.{ACTORS, PHASES, MOST-WCET, PROCESSORS, LOAD-LIMIT}
 use Rattle.period.specs.Period.{partOf}
+use Rattle.terms.specs.Place.{numberOf}
 use Rattle.graph.specs.declared.shape.Actor.{Actor}
 use Rattle.graph.specs.declared.shape.Mode.{Mode}
 use Rattle.graph.specs.Shape.{noActor, actorAt}
@@ -34,20 +35,17 @@ use Rattle.graph.specs.Counts.{Counted}
 use Rattle.graph.specs.Lengths.{Light, firingsIn, worksIn, shareFrom, sharesIn, overloadedOf}
 use Rattle.graph.proofs.Lasting.{works-at}
 
--- whether the load of processor p is found to be above the limit
+-- whether the load of the processor at place p is found to be above the limit
 abbrev pub overb : List Tick → Tick → ℕ → Bool
-overb shares h p = not (atMostb (partOf (getD shares (p - 1) (tick 0)) h) LOAD-LIMIT)
+overb shares h p = not (atMostb (partOf (getD shares p (tick 0)) h) LOAD-LIMIT)
 
 -- one processor more, as a loop counts
 pub over-next : (shares : List Tick) (h : Tick) (p : ℕ) (a : Fraction) (r : Bool) → p < PROCESSORS → a ≡ partOf (getD shares p (tick 0)) h → Decides (AtMost a LOAD-LIMIT) r
-    → lowestOr (overb shares h) 0 (suc PROCESSORS - (p + 1)) (p + 1)
-    ≡ cond (not r) (p + 1) (lowestOr (overb shares h) 0 (suc PROCESSORS - (p + 1 + 1)) (p + 1 + 1))
+    → lowestOr (overb shares h) PROCESSORS (PROCESSORS - p) p ≡ cond (not r) p (lowestOr (overb shares h) PROCESSORS (PROCESSORS - (p + 1)) (p + 1))
 over-next shares h p a r l e d =
-    let test : atMostb (partOf (getD shares (p + 1 - 1) (tick 0)) h) LOAD-LIMIT ≡ r
-    = ap (λ (n : ℕ). atMostb (partOf (getD shares n (tick 0)) h) LOAD-LIMIT) (omega arith)
-    ∙ ap (λ (f : Fraction). atMostb f LOAD-LIMIT) (sym e)
-    ∙ decides-unique (atMostb a LOAD-LIMIT) r (at-most-decides a LOAD-LIMIT) d in
-    lowest-next (overb shares h) 0 (suc PROCESSORS) (p + 1) (omega arith) ∙ rw test
+    let test : atMostb (partOf (getD shares p (tick 0)) h) LOAD-LIMIT ≡ r
+    = ap (λ (f : Fraction). atMostb f LOAD-LIMIT) (sym e) ∙ decides-unique (atMostb a LOAD-LIMIT) r (at-most-decides a LOAD-LIMIT) d in
+    lowest-next (overb shares h) PROCESSORS PROCESSORS p l ∙ rw test
 
 -- one actor more, as a loop counts
 pub share-next : (acts : List Actor) (ws : List Tick) (p n : ℕ)
@@ -93,10 +91,10 @@ module _ (m : Mode) (proper : ProperMode m) (x : List ℕ) (counted : Counted m 
       go false e true ih = rw (works-at m proper x counted n h) (omega (arith, no-work n h e))
       go false e false ih = omega arith
 
-  pub shares-are : shares ≡ tab PROCESSORS (λ p. shareOf m X (suc p))
+  pub shares-are : shares ≡ tab PROCESSORS (λ p. shareOf m X (numberOf p))
   shares-are =
-      tab-same PROCESSORS (λ p. shareFrom (m .actors) ws (suc p) ACTORS) (λ p. shareOf m X (suc p))
-      (λ p l. λ i. tick (share-is (suc p) ACTORS (le-refl ACTORS) i))
+      tab-same PROCESSORS (λ p. shareFrom (m .actors) ws (numberOf p) ACTORS) (λ p. shareOf m X (numberOf p))
+      (λ p l. λ i. tick (share-is (numberOf p) ACTORS (le-refl ACTORS) i))
 
   module _ (h : Tick) (iteration : Iteration m X h) (p : ℕ) where
     -- what an actor asks of its processor is its work, as a part of the iteration
@@ -127,35 +125,36 @@ module _ (m : Mode) (proper : ProperMode m) (x : List ℕ) (counted : Counted m 
         (iteration-pos m proper X (counted .some) iteration)
         (sum-common (λ i. cond (isOn m p i) (askedBy m X h i) nothing) (λ i. cond (isOn m p i) (workIn m X i .0) 0) (h .0) ACTORS asked-same)
 
-    -- the test answers whether a processor is overloaded
-    over-is : 1 ≤ p → p ≤ PROCESSORS → Decides (Overloaded m X h p) (overb shares h p)
-    over-is some most =
-        let s : getD shares (p - 1) (tick 0) ≡ shareOf m X p
-        = getD-tab PROCESSORS (λ p. shareFrom (m .actors) ws (suc p) ACTORS) (p - 1) (tick 0) (omega arith)
-        ∙ (λ i. tick (share-is (suc (p - 1)) ACTORS (le-refl ACTORS) i))
-        ∙ ap (shareOf m X) (omega arith) in
-        let d = decides-not (atMostb (partOf (getD shares (p - 1) (tick 0)) h) LOAD-LIMIT) (at-most-decides (partOf (getD shares (p - 1) (tick 0)) h) LOAD-LIMIT) in (
-          (λ t. record { some = some; processor = most; above = λ a. d .0 t (rw s (load-share .0 a)) }),
-          (λ o. d .1 (λ a. o .above (load-share .1 (rw s at a)))),
+    -- the test answers whether it is
+    pub over-is : (q : ℕ) → q < PROCESSORS → p ≡ numberOf q → Decides (Overloaded m X h q) (overb shares h q)
+    over-is q l e =
+        let s : getD shares q (tick 0) ≡ shareOf m X p
+        = getD-tab PROCESSORS (λ p. shareFrom (m .actors) ws (numberOf p) ACTORS) q (tick 0) l ∙ (λ i. tick (share-is (numberOf q) ACTORS (le-refl ACTORS) i)) ∙ ap (shareOf m X) (sym e) in
+        let d = decides-not (atMostb (partOf (getD shares q (tick 0)) h) LOAD-LIMIT) (at-most-decides (partOf (getD shares q (tick 0)) h) LOAD-LIMIT) in (
+          (λ t. record { processor = l; above = λ a. d .0 t (rw s (load-share .0 (rw e a))) }),
+          (λ o. d .1 (λ a. o .above (rw e at (load-share .1 (rw s at a))))),
         )
 
   module _ (h : Tick) (iteration : Iteration m X h) where
-    none-over : NonePasses (overb shares h) PROCESSORS 1 → (p : ℕ) → Overloaded m X h p → ⊥
-    none-over n p o = decides-false (over-is h iteration p (o .some) (o .processor)) (n p (o .some) (omega (arith, o .processor))) o
+    over : (p : ℕ) → p < PROCESSORS → Decides (Overloaded m X h p) (overb shares h p)
+    over p l = over-is h iteration (numberOf p) p l refl
 
-    pub loads-fine : overloadedOf shares h ≡ 0 → (p : ℕ) → Overloaded m X h p → ⊥
-    loads-fine e = ⊎-elim (λ (j, f). absurd (omega (arith, f .from, lowest-is (overb shares h) 0 PROCESSORS 1 j f))) none-over (sought (overb shares h) PROCESSORS 1)
+    none-over : NonePasses (overb shares h) PROCESSORS 0 → (p : ℕ) → Overloaded m X h p → ⊥
+    none-over n p o = decides-false (over p (o .processor)) (n p zero-le (omega (arith, o .processor))) o
 
-    pub loads-over : (overloadedOf shares h ≡ 0 → ⊥) → Least (Overloaded m X h) (overloadedOf shares h)
-    loads-over n = ⊎-elim least (λ z. absurd (n (lowest-none (overb shares h) 0 PROCESSORS 1 z))) (sought (overb shares h) PROCESSORS 1)
+    pub loads-fine : overloadedOf shares h ≡ PROCESSORS → (p : ℕ) → Overloaded m X h p → ⊥
+    loads-fine e = ⊎-elim (λ (j, f). absurd (omega (arith, f .below, lowest-is (overb shares h) PROCESSORS PROCESSORS 0 j f))) none-over (sought (overb shares h) PROCESSORS 0)
+
+    pub loads-over : (overloadedOf shares h ≡ PROCESSORS → ⊥) → Least (Overloaded m X h) (overloadedOf shares h)
+    loads-over n = ⊎-elim least (λ z. absurd (n (lowest-none (overb shares h) PROCESSORS PROCESSORS 0 z))) (sought (overb shares h) PROCESSORS 0)
       where
-        least : (j : ℕ) × FirstPasses (overb shares h) PROCESSORS 1 j → Least (Overloaded m X h) (overloadedOf shares h)
+        least : (j : ℕ) × FirstPasses (overb shares h) PROCESSORS 0 j → Least (Overloaded m X h) (overloadedOf shares h)
         least (j, f) =
-            rw (lowest-is (overb shares h) 0 PROCESSORS 1 j f) (record {
-              holds = decides-true (over-is h iteration j (f .from) (omega (arith, f .below))) (f .passes);
+            rw (lowest-is (overb shares h) PROCESSORS PROCESSORS 0 j f) (record {
+              holds = decides-true (over j (omega (arith, f .below))) (f .passes);
               least = λ p o. go p o (decLe j p);
             })
           where
             go : (p : ℕ) → Overloaded m X h p → Dec (j ≤ p) → j ≤ p
             go p o (yes l) = l
-            go p o (no g) = absurd (decides-false (over-is h iteration p (o .some) (o .processor)) (f .first p (o .some) (lt-of-not-le g)) o)
+            go p o (no g) = absurd (decides-false (over p (o .processor)) (f .first p zero-le (lt-of-not-le g)) o)

@@ -2,7 +2,7 @@
 use mathlib.Core.Path.{_≡_, refl, sym, ap, subst, _∙_}
 use mathlib.Core.Bool.{Bool, true, false, cond, _&&_}
 use mathlib.Core.Logic.{_⊎_, inl, inr}
-use Prim.Native.Nat.{ℕ, suc, _<_}
+use Prim.Native.Nat.{ℕ, _<_}
 use native.Mathlib.Nat.{le-antisymm, not-le-of-lt}
 use native.Mathlib.Omega.{arith}
 use lib.Dec.{eqb}
@@ -19,6 +19,7 @@ use Rattle.units.specs.declared.Tick.{Tick}
 use Rattle.units.specs.Limits.{ACTORS, PROCESSORS, LOAD-LIMIT}
 use Rattle.units.specs.Firings.{firing}
 use Rattle.period.specs.Period.{periodOf}
+use Rattle.terms.specs.Place.{numberOf}
 use Rattle.graph.specs.declared.shape.Mode.{Mode}
 use Rattle.graph.specs.declared.Verdict.the-variants.{Overloaded as IsOverloaded}
 use Rattle.graph.specs.declared.Judgement.{Judgement}
@@ -60,7 +61,7 @@ module _ (m : Mode) where
     load-same h p = sum-alike _ _ ACTORS (λ i l. on-actors (askedBy m x h) (askedBy m y h) nothing p i l (λ a. ap (λ (n : ℕ). askedBy m (λ (j : ℕ). n) h i) (same i a)))
 
     over-same : (h : Tick) (p : ℕ) → Overloaded m x h p → Overloaded m y h p
-    over-same h p o = record { some = o .some; processor = o .processor; above = subst (λ f. AtMost f LOAD-LIMIT → ⊥) (load-same h p) (o .above) }
+    over-same h p o = record { processor = o .processor; above = subst (λ f. AtMost f LOAD-LIMIT → ⊥) (load-same h (numberOf p)) (o .above) }
 
   smallest-same : (x y : ℕ → ℕ) → Smallest m x → Smallest m y → (i : ℕ) → Active m i → x i ≡ y i
   smallest-same x y p q i a = le-antisymm (p .least y (q .balances) i a) (q .least x (p .balances) i a)
@@ -95,7 +96,7 @@ module _ (m : Mode) where
         firings = (p .firings ∙ of-actors (firingsOf m x) (firingsOf m y) (firing 0) (λ k c. ap (λ (n : ℕ). firingsOf m (λ (j : ℕ). n) k) (same k c)) ∙ sym (q .firings)) i;
         periods = (p .periods ∙ of-actors (λ k. periodOf (a .iteration) (firingsOf m x k)) (λ k. periodOf (b .iteration) (firingsOf m y k)) (tick 0)
             (λ k c. ap (λ (n : ℕ). periodOf (a .iteration) (firingsOf m (λ (j : ℕ). n) k)) (same k c) ∙ ap (λ (t : Tick). periodOf t (firingsOf m y k)) h) ∙ sym (q .periods)) i;
-        shares = (p .shares ∙ tab-same PROCESSORS _ _ (λ k l. shares-same x y same (suc k)) ∙ sym (q .shares)) i;
+        shares = (p .shares ∙ tab-same PROCESSORS _ _ (λ k l. shares-same x y same (numberOf k)) ∙ sym (q .shares)) i;
       }
 
   pub judged-unique : {a b : Judgement} → Judged m a → Judged m b → a ≡ b

@@ -6,7 +6,7 @@ use lib.Dec.{eqb}
 use Rattle.numbers.specs.Bits.{size}
 use Rattle.units.specs.declared.Tick.{Tick}
 use Rattle.units.specs.declared.Firing.{Firing}
-use Rattle.units.specs.Limits.{ACTORS}
+use Rattle.units.specs.Limits.{ACTORS, PROCESSORS}
 use Rattle.period.specs.declared.Length.{Length}
 use Rattle.period.specs.declared.Length.the-variants.{Is, Above as TooLong}
 use Rattle.graph.specs.declared.shape.Mode.{Mode}
@@ -38,7 +38,7 @@ soundBy m ds s t x qs ws h =
 abbrev pub loaded : Mode → List ℕ → ℕ → ℕ → List ℕ → List Firing → List Tick → Length → Judgement
 loaded m ds s t x qs ws TooLong = refusedBy Unbalanced
 loaded m ds s t x qs ws (Is h) =
-    cond (eqb (overloadedOf (sharesIn (m .actors) ws) h) 0) (soundBy m ds s t x qs ws h)
+    cond (eqb (overloadedOf (sharesIn (m .actors) ws) h) PROCESSORS) (soundBy m ds s t x qs ws h)
     (refusedBy (Overloaded (overloadedOf (sharesIn (m .actors) ws) h)))
 
 unfoldable pub timedOf : Mode → List ℕ → ℕ → ℕ → List ℕ → Judgement

@@ -2,7 +2,7 @@
 use mathlib.Core.Path.{_≡_}
 use mathlib.Core.Bool.{cond}
 use mathlib.Core.List.{List}
-use Prim.Native.Nat.{ℕ, suc, _≤_, _<_}
+use Prim.Native.Nat.{ℕ, _≤_, _<_}
 use lib.ListN.{length, getD, replicate}
 use Rattle.numbers.specs.Bits.{hasb}
 use Rattle.numbers.specs.Extreme.{Least}
@@ -12,6 +12,7 @@ use Rattle.units.specs.Ticks.{tick}
 use Rattle.units.specs.Limits.{ACTORS, PROCESSORS, ITERATION-LIMIT}
 use Rattle.units.specs.Firings.{firing}
 use Rattle.period.specs.Period.{periodOf}
+use Rattle.terms.specs.Place.{numberOf}
 use Rattle.graph.specs.declared.shape.Mode.{Mode}
 use Rattle.graph.specs.declared.Verdict.{Verdict}
 use Rattle.graph.specs.declared.Verdict.the-variants.{Cyclic as IsCyclic, Ends as HasNoEnds, Unbalanced as IsUnbalanced, Overloaded as IsOverloaded, Sound as IsSound}
@@ -54,7 +55,7 @@ pub record Numbers (m : Mode) (x : ℕ → ℕ) (j : Judgement) : Type 0 where
   pub counts : j .counts ≡ ofActors m x 0
   pub firings : j .firings ≡ ofActors m (firingsOf m x) (firing 0)
   pub periods : j .periods ≡ ofActors m (λ i. periodOf (j .iteration) (firingsOf m x i)) (tick 0)
-  pub shares : j .shares ≡ tab PROCESSORS (λ p. shareOf m x (suc p))
+  pub shares : j .shares ≡ tab PROCESSORS (λ p. shareOf m x (numberOf p))
 
 -- the verdict: refusals 6 to 9 in order, each only where no earlier one applies
 pub data Judged (m : Mode) : Judgement → Type 0 where

@@ -2,7 +2,7 @@
 use mathlib.Core.Path.{_≡_}
 use mathlib.Core.Bool.{cond, not}
 use mathlib.Core.List.{List}
-use Prim.Native.Nat.{ℕ, zero, suc, _*_, _-_, _≤_, _<_}
+use Prim.Native.Nat.{ℕ, zero, suc, _*_, _≤_, _<_}
 use lib.Dec.{eqb}
 use lib.ListN.{length, getD}
 use Rattle.numbers.specs.Bits.{Has, hasb}
@@ -22,6 +22,7 @@ use Rattle.period.specs.declared.Length.the-variants.{Above as TooLong}
 use Rattle.period.specs.Period.{workOf, periodOf, partOf}
 use Rattle.period.specs.Reckoned.{commonOf, iterationOf}
 use Rattle.rate.specs.Rate.{cyclesOf}
+use Rattle.terms.specs.Place.{numberOf}
 use Rattle.graph.specs.declared.shape.Actor.{Actor}
 use Rattle.graph.specs.Shape.{noActor}
 
@@ -82,7 +83,7 @@ shareFrom acts ws p zero = tick 0
 shareFrom acts ws p (suc n) = cond (eqb (getD acts n noActor .processor) p) (plusTicks (shareFrom acts ws p n) (getD ws n (tick 0))) (shareFrom acts ws p n)
 
 abbrev pub sharesIn : List Actor → List Tick → List Tick
-sharesIn acts ws = tab PROCESSORS (λ p. shareFrom acts ws (suc p) ACTORS)
+sharesIn acts ws = tab PROCESSORS (λ p. shareFrom acts ws (numberOf p) ACTORS)
 
 abbrev pub overloadedOf : List Tick → Tick → ℕ
-overloadedOf shares h = lowestOr (λ p. not (atMostb (partOf (getD shares (p - 1) (tick 0)) h) LOAD-LIMIT)) 0 PROCESSORS 1
+overloadedOf shares h = lowestOr (λ p. not (atMostb (partOf (getD shares p (tick 0)) h) LOAD-LIMIT)) PROCESSORS PROCESSORS 0

@@ -1,6 +1,6 @@
 -- The load of a processor: the sum of wcet / T over its actors, as exact fractions.
 use mathlib.Core.Bool.{Bool, cond, _&&_}
-use Prim.Native.Nat.{ℕ, _≤_}
+use Prim.Native.Nat.{ℕ, _<_}
 use lib.Dec.{eqb}
 use Rattle.numbers.specs.Bits.{hasb}
 use Rattle.numbers.specs.Sum.{sum}
@@ -10,6 +10,7 @@ use Rattle.units.specs.declared.Tick.{Tick}
 use Rattle.units.specs.Ticks.{tick}
 use Rattle.units.specs.Limits.{ACTORS, PROCESSORS, LOAD-LIMIT}
 use Rattle.period.specs.Period.{periodOf, partOf}
+use Rattle.terms.specs.Place.{numberOf}
 use Rattle.graph.specs.declared.shape.Mode.{Mode}
 use Rattle.graph.specs.Shape.{actorAt}
 use Rattle.graph.specs.Balance.{firingsOf, workIn}
@@ -26,11 +27,10 @@ askedBy m x h i = partOf (actorAt m i .wcet) (periodOf h (firingsOf m x i))
 abbrev pub loadOf : Mode → (ℕ → ℕ) → Tick → ℕ → Fraction
 loadOf m x h p = sumOf (λ i. cond (isOn m p i) (askedBy m x h i) nothing) ACTORS
 
--- Refusal 9: a processor's load is above the limit.
+-- Refusal 9: the load of the processor at place p is above the limit.
 pub record Overloaded (m : Mode) (x : ℕ → ℕ) (h : Tick) (p : ℕ) : Type 0 where
-  pub some : 1 ≤ p
-  pub processor : p ≤ PROCESSORS
-  pub above : AtMost (loadOf m x h p) LOAD-LIMIT → ⊥
+  pub processor : p < PROCESSORS
+  pub above : AtMost (loadOf m x h (numberOf p)) LOAD-LIMIT → ⊥
 
 -- the ticks of an iteration that processor p works
 abbrev pub shareOf : Mode → (ℕ → ℕ) → ℕ → Tick

@@ -22,7 +22,7 @@ ghost use Rattle.graph.specs.Order.{Ranked};
 ghost use Rattle.graph.specs.Counts.{Counted};
 ghost use Rattle.graph.specs.Judge.{timedOf, balancedOf};
 
-// The first of the refusals 6 to 9 that applies to a mode, 9 with its processor; or that none does.
+// The first of the refusals 6 to 9 that applies to a mode, 9 with the place of its processor; or that none does.
 pub enum Verdict {
     Cyclic,
     Ends,
@@ -80,7 +80,7 @@ fn timed(
     };
     let shares = load::shares_of(actors, works);
     let over = load::overloaded(shares, iteration);
-    if over != 0 {
+    if over != PROCESSORS {
         return refused(Verdict::Overloaded(over));
     }
     Judgement {

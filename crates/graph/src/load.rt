@@ -1,6 +1,7 @@
 // What the actors of a mode ask of the processors.
 use crate::shape::Actor;
 use numbers::fraction::at_most;
+use terms::place::number_of;
 use units::Tick;
 use units::limits::ACTORS;
 use units::limits::LOAD_LIMIT;
@@ -32,20 +33,20 @@ pub(crate) fn shares_of(actors: [Actor; ACTORS], works: [Tick; ACTORS]) -> [Tick
 {
     let mut shares = [Tick::NONE; PROCESSORS];
     for p in 0..PROCESSORS {
-        shares[p] = share_of(actors, works, p + 1);
+        shares[p] = share_of(actors, works, number_of(p) as usize);
     }
     shares
 }
 
-// The lowest processor whose load is above the limit; 0 where there is none.
+// The place of the lowest processor whose load is above the limit; the one behind all of them where there is none.
 pub(crate) fn overloaded(shares: [Tick; PROCESSORS], iteration: Tick) -> usize
     requires { ⌜ (length shares ≡ PROCESSORS) × (0 < iteration .0) ⌝ }
     ensures { λ r. ⌜ r ≡ overloadedOf shares iteration ⌝ }
 {
     for p in 0..PROCESSORS {
         if !at_most(period::part(shares[p], iteration), LOAD_LIMIT) {
-            return p + 1;
+            return p;
         }
     }
-    0
+    PROCESSORS
 }

@@ -1,7 +1,7 @@
 -- The words of a plan are as many as the buffer has, and hold the table.
 use mathlib.Core.Path.{_≡_, refl, sym, ap, ap₂, _∙_}
 use mathlib.Core.List.{List, _++_}
-use Prim.Native.Nat.{ℕ, _+_, _*_, _%_, _≤_, _<_}
+use Prim.Native.Nat.{ℕ, _+_, _*_, _%_, _≤_, _<_, _^_}
 use native.Mathlib.Nat.{mod-eq-of-lt}
 use native.Mathlib.Omega.{arith}
 use native.Mathlib.Decide.{decLt}
@@ -100,7 +100,7 @@ module _ (m : Mode) (h : ProperMode m) where
       = ap actorsOf (stretch-at (headWords m p) acts chans HEAD-WORDS (ACTOR-WORDS * ACTORS) refl (length-actors m p)) ∙ actors-back p in
       let b : channelsOf (stretch (HEAD-WORDS + ACTOR-WORDS * ACTORS) (CHANNEL-WORDS * CHANNELS) (headWords m p ++ (acts ++ chans))) ≡ m .channels
       = ap channelsOf (ap (take (CHANNEL-WORDS * CHANNELS)) (drop-at acts chans (ACTOR-WORDS * ACTORS) (length-actors m p)) ∙ take-all (CHANNEL-WORDS * CHANNELS) chans (omega (arith, length-channels m p))) ∙ channels-back p in
-      let e : m .active % 65536 ≡ m .active = mod-eq-of-lt (h .active) in
+      let e : m .active % 2 ^ ACTORS ≡ m .active = mod-eq-of-lt (h .active) in
       simp (a, b, e)
     where
       actors-back : (p : Part) → actorsOf (joined ACTORS (actorWordsAt m p)) ≡ m .actors

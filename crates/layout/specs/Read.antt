@@ -1,6 +1,6 @@
 -- The table that words hold. A word that is too large for what it stands for is cut.
 use mathlib.Core.List.{List}
-use Prim.Native.Nat.{ℕ, _+_, _*_, _%_}
+use Prim.Native.Nat.{ℕ, _+_, _*_, _%_, _^_}
 use lib.ListN.{getD}
 use Rattle.numbers.specs.Tab.{tab}
 use Rattle.units.specs.Ticks.{tick}
@@ -36,7 +36,7 @@ channelsOf l = tab CHANNELS (λ k. channelOf (part CHANNEL-WORDS k l))
 unfoldable pub modeOf : List ℕ → Mode
 modeOf l =
     record {
-      active = getD l 0 0 % 65536;
+      active = getD l 0 0 % 2 ^ ACTORS;
       count = getD l 1 0;
       actors = actorsOf (stretch HEAD-WORDS (ACTOR-WORDS * ACTORS) l);
       channels = channelsOf (stretch (HEAD-WORDS + ACTOR-WORDS * ACTORS) (CHANNEL-WORDS * CHANNELS) l);

@@ -1,5 +1,6 @@
 // A buffer is compared with what would be written, part by part.
 use crate::store;
+use crate::store::CHANGES_WORDS;
 use crate::store::MODE_WORDS;
 use graph::shape::Mode;
 use graph::shape::Table;
@@ -55,7 +56,7 @@ pub(crate) fn changes_hold(whole: Whole, words: &[u64]) -> bool
     requires { ⌜ length (now words) ≡ CHANGE-WORDS * CHANGES ⌝ }
     ensures { λ r. ⌜ Decides (now (words .entry) ≡ changesWords whole) r ⌝ }
 {
-    let mut fresh = [0u64; 192];
+    let mut fresh = [0u64; CHANGES_WORDS];
     store::put_changes(whole, &mut fresh);
     same(words, &fresh)
 }

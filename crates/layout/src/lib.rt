@@ -13,10 +13,10 @@ ghost use Rattle.layout.specs.Words.{WORDS, wordsOf};
 ghost use Rattle.layout.specs.Read.{graphOf};
 
 // The words of the buffer.
-pub const WORDS: usize = 6120;
+pub const WORDS: usize = MODES_END + store::CHANGES_WORDS;
 
 // Where the changes begin.
-const MODES_END: usize = 5928;
+const MODES_END: usize = store::MODE_WORDS * MODES;
 
 // Writes the plan of a table.
 pub fn write(table: Table, whole: Whole, words: &mut [u64])

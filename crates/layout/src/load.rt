@@ -3,7 +3,10 @@ use crate::store::ACTOR_WORDS;
 use crate::store::ACTORS_AT;
 use crate::store::CHANNEL_WORDS;
 use crate::store::CHANNELS_AT;
+use crate::store::CONSUMPTION_AT;
 use crate::store::MODE_WORDS;
+use crate::store::PRODUCTION_AT;
+use crate::store::SIZE_AT;
 use graph::shape::Actor;
 use graph::shape::Channel;
 use graph::shape::Mode;
@@ -18,6 +21,9 @@ ghost use Rattle.units.specs.Limits.{ACTORS, CHANNELS, PHASES};
 ghost use Rattle.graph.specs.Shape.{noActor, emptyChannel, emptyMode};
 ghost use Rattle.layout.specs.Words.{ACTOR-WORDS, CHANNEL-WORDS, MODE-WORDS};
 ghost use Rattle.layout.specs.Read.{actorOf, ratesOf, channelOf, actorsOf, channelsOf, modeOf};
+
+// How many sets of actors there are.
+const SETS: u64 = 1 << ACTORS;
 
 fn no_actor() -> Actor
     ensures { λ r. ⌜ r ≡ noActor ⌝ }
@@ -90,8 +96,8 @@ fn channel_of(words: &[u64]) -> Channel
     requires { ⌜ length (now words) ≡ CHANNEL-WORDS ⌝ }
     ensures { λ r. ⌜ r ≡ channelOf (now (words .entry)) ⌝ }
 {
-    let production = rates_of(&words[2..10]);
-    let consumption = rates_of(&words[10..18]);
+    let production = rates_of(&words[PRODUCTION_AT..CONSUMPTION_AT]);
+    let consumption = rates_of(&words[CONSUMPTION_AT..SIZE_AT]);
     Channel {
         from: words[0] as usize,
         to: words[1] as usize,
@@ -120,7 +126,7 @@ pub(crate) fn mode_of(words: &[u64]) -> Mode
     let actors = actors_of(&words[ACTORS_AT..CHANNELS_AT]);
     let channels = channels_of(&words[CHANNELS_AT..MODE_WORDS]);
     Mode {
-        active: (words[0] % 65536) as u16,
+        active: (words[0] % SETS) as u16,
         count: words[1] as usize,
         actors,
         channels,

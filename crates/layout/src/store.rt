@@ -20,20 +20,32 @@ ghost use Rattle.units.specs.Limits.{MODES, ACTORS, CHANNELS, PHASES};
 ghost use Rattle.layout.specs.Joined.{joined};
 ghost use Rattle.layout.specs.Words.{CHANGES, HEAD-WORDS, ACTOR-WORDS, CHANNEL-WORDS, MODE-WORDS, CHANGE-WORDS, headWords, actorWords, rateWords, channelWords, actorWordsAt, channelWordsAt, modeWords, changeWords, modesWords, changesWords};
 
+// The words of an actor, and those of a channel: where its rates of production and consumption begin, its size, and the tokens that it carries.
 pub(crate) const ACTOR_WORDS: usize = 6;
 
-pub(crate) const CHANNEL_WORDS: usize = 20;
+pub(crate) const PRODUCTION_AT: usize = 2;
 
-pub(crate) const MODE_WORDS: usize = 741;
+pub(crate) const CONSUMPTION_AT: usize = PRODUCTION_AT + PHASES;
 
-const CHANGE_WORDS: usize = 3;
+pub(crate) const SIZE_AT: usize = CONSUMPTION_AT + PHASES;
 
-const CHANGES: usize = 64;
+const TOKENS_AT: usize = SIZE_AT + 1;
 
-// The words of a mode at which its actors and its channels begin.
+pub(crate) const CHANNEL_WORDS: usize = TOKENS_AT + 1;
+
+// The words of a mode: where its actors and its channels begin, behind five of its own.
 pub(crate) const ACTORS_AT: usize = 5;
 
-pub(crate) const CHANNELS_AT: usize = 101;
+pub(crate) const CHANNELS_AT: usize = ACTORS_AT + ACTOR_WORDS * ACTORS;
+
+pub(crate) const MODE_WORDS: usize = CHANNELS_AT + CHANNEL_WORDS * CHANNELS;
+
+// The words of a change, and of all of them.
+const CHANGE_WORDS: usize = 3;
+
+const CHANGES: usize = MODES * MODES;
+
+pub(crate) const CHANGES_WORDS: usize = CHANGE_WORDS * CHANGES;
 
 fn put_head(mode: Mode, part: Part, words: &mut [u64])
     requires { ⌜ length (now words) ≡ HEAD-WORDS ⌝ }
@@ -90,12 +102,12 @@ fn put_channel(channel: Channel, size: Token, tokens: Token, words: &mut [u64])
 {
     let production = channel.production;
     let consumption = channel.consumption;
-    put_rates(production, &mut words[2..10]);
-    put_rates(consumption, &mut words[10..18]);
+    put_rates(production, &mut words[PRODUCTION_AT..CONSUMPTION_AT]);
+    put_rates(consumption, &mut words[CONSUMPTION_AT..SIZE_AT]);
     words[0] = channel.from as u64;
     words[1] = channel.to as u64;
-    words[18] = size.tokens();
-    words[19] = tokens.tokens();
+    words[SIZE_AT] = size.tokens();
+    words[TOKENS_AT] = tokens.tokens();
 }
 
 fn put_channels(mode: Mode, part: Part, words: &mut [u64])

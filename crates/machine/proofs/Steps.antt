@@ -3,7 +3,7 @@ use mathlib.Core.Path.{_≡_, refl, sym, ap, subst, _∙_}
 use mathlib.Core.Bool.{Bool, true, false, not}
 use mathlib.Core.Logic.{_≢_, _⊎_, inl, inr}
 use mathlib.Core.List.{List}
-use Prim.Native.Nat.{ℕ, suc, max, _+_, _-_, _*_, _/_, _^_, _≤_, _<_}
+use Prim.Native.Nat.{ℕ, suc, max, _+_, _-_, _*_, _/_, _≤_, _<_}
 use native.Mathlib.Nat.{div-add-mod', mod-lt, mul-le-mul-right, lt-of-not-le, mul-comm, add-mul}
 use native.Mathlib.Omega.{arith}
 use native.Mathlib.Decide.{decLe}
@@ -12,9 +12,11 @@ use lib.Dec.{T, eqb}
 use Rattle.numbers.specs.Extreme.{Least, least-unique}
 use Rattle.numbers.specs.Quotient.{roundedOf, rounded-of}
 use Rattle.numbers.specs.Lowest.{sought, lowest-is, FirstPasses, NonePasses}
-use Rattle.units.specs.Limits.{MODES}
+use Rattle.units.specs.Limits.{MODES, CLOCK-LIMIT}
 use Rattle.units.specs.declared.Tick.{Tick}
 use Rattle.units.specs.Ticks.{tick}
+use Rattle.terms.specs.Refusal.{NO-MODE, SAME-MODE, PAST-CLOCK, UNENDED, NO-MACHINE}
+use Rattle.terms.specs.Place.{numberOf}
 use Rattle.graph.specs.declared.shape.Table.{Table}
 use Rattle.graph.specs.Shape.{modeAt}
 use Rattle.graph.specs.Proper.{ProperTable}
@@ -38,7 +40,7 @@ use Rattle.machine.specs.Steps.{lowestOf, courseOf, Near, leftOf, change
 pub listed-within : (t : Table) (m : ℕ) → 1 ≤ m → m ≤ MODES → isListed t m ≡ not (eqb (modeOf t m .active) 0)
 listed-within t m h k = rw (le-leb 1 m h, le-leb m MODES k)
 
-pub listed-place : (t : Table) (k : ℕ) → k < MODES → isListed t (k + 1) ≡ not (eqb (modeAt t k .active) 0)
+pub listed-place : (t : Table) (k : ℕ) → k < MODES → isListed t (numberOf k) ≡ not (eqb (modeAt t k .active) 0)
 listed-place t k h = let e : k + 1 - 1 ≡ k = omega arith in listed-within t (k + 1) (omega arith) (omega arith) ∙ rw e refl
 
 pub listed-zero : (t : Table) (m : ℕ) → m ≡ 0 → isListed t m ≡ false
@@ -87,31 +89,31 @@ module _ (m : Machine) (c : Course) (t : Tick) (near : Near m c t) where
 
 -- the first refusal that applies to a request
 module _ (p : Plan) (m : Run.Machine) (r : Run.Request) where
-  pub refused-16 : p .listed (m .mode) ≡ false → Run.refusal p m r ≡ 16
+  pub refused-16 : p .listed (m .mode) ≡ false → Run.refusal p m r ≡ NO-MACHINE
   unfolding Run.refusal
   refused-16 h = rw h
 
   module _ (old : p .listed (m .mode) ≡ true) where
-    pub refused-disordered : m .ended < m .started → Run.refusal p m r ≡ 16
+    pub refused-disordered : m .ended < m .started → Run.refusal p m r ≡ NO-MACHINE
     unfolding Run.refusal
     refused-disordered h = rw (old, lt-ltb (m .ended) (m .started) h)
 
     module _ (ordered : m .started ≤ m .ended) where
-      pub refused-11 : p .listed (r .mode) ≡ false → Run.refusal p m r ≡ 11
+      pub refused-11 : p .listed (r .mode) ≡ false → Run.refusal p m r ≡ NO-MODE
       unfolding Run.refusal
       refused-11 h = rw (old, le-ltb (m .ended) (m .started) ordered, h)
 
       module _ (new : p .listed (r .mode) ≡ true) where
-        pub refused-12 : r .mode ≡ m .mode → Run.refusal p m r ≡ 12
+        pub refused-12 : r .mode ≡ m .mode → Run.refusal p m r ≡ SAME-MODE
         unfolding Run.refusal
         refused-12 h = rw (old, le-ltb (m .ended) (m .started) ordered, new, eq-eqb (r .mode) (m .mode) h)
 
         module _ (other : r .mode ≢ m .mode) where
-          pub refused-13 : 2 ^ 62 < r .tick → Run.refusal p m r ≡ 13
+          pub refused-13 : CLOCK-LIMIT .0 < r .tick → Run.refusal p m r ≡ PAST-CLOCK
           unfolding Run.refusal
-          refused-13 h = rw (old, le-ltb (m .ended) (m .started) ordered, new, ne-eqb (r .mode) (m .mode) other, lt-ltb (2 ^ 62) (r .tick) h)
+          refused-13 h = rw (old, le-ltb (m .ended) (m .started) ordered, new, ne-eqb (r .mode) (m .mode) other, lt-ltb (CLOCK-LIMIT .0) (r .tick) h)
 
-          pub refused-14 : r .tick ≤ 2 ^ 62 → r .tick < m .ended → Run.refusal p m r ≡ 14
+          pub refused-14 : r .tick ≤ CLOCK-LIMIT .0 → r .tick < m .ended → Run.refusal p m r ≡ UNENDED
           unfolding Run.refusal
           refused-14 k h =
               rw (
@@ -119,7 +121,7 @@ module _ (p : Plan) (m : Run.Machine) (r : Run.Request) where
                 le-ltb (m .ended) (m .started) ordered,
                 new,
                 ne-eqb (r .mode) (m .mode) other,
-                le-ltb (2 ^ 62) (r .tick) k,
+                le-ltb (CLOCK-LIMIT .0) (r .tick) k,
                 lt-ltb (r .tick) (m .ended) h,
               )
 

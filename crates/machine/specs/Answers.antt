@@ -6,6 +6,7 @@ use lib.Dec.{T}
 use Rattle.numbers.specs.Extreme.{Least}
 use Rattle.units.specs.declared.Tick.{Tick}
 use Rattle.units.specs.Ticks.{tick}
+use Rattle.terms.specs.Refusal.{NO-MODE, NO-PLAN}
 use Rattle.terms.specs.declared.refusal.Place.the-variants.{Nowhere}
 use Rattle.terms.specs.declared.refusal.Refusal.{Refusal}
 use Rattle.graph.specs.declared.shape.Table.{Table}
@@ -42,8 +43,8 @@ pub record Meant (t : Table) (mode k : ℕ) : Type 0 where
 -- The answer to a start: 15 where no accepted table leaves the words, then 11 where the mode is not in the plan, and otherwise a machine at tick 0 whose
 -- first change counts as ended at the end of the mode's start-up.
 pub data Begins (words : List ℕ) (mode : ℕ) : Beginning → Type 0 where
-  not-stored : (Stored words → ⊥) → Begins words mode (NotBegun (refusalOf 15))
-  not-listed : {t : Table} {w : Whole} {k : ℕ} → Leaves t w words → Meant t mode k → (T (isListed t k) → ⊥) → Begins words mode (NotBegun (refusalOf 11))
+  not-stored : (Stored words → ⊥) → Begins words mode (NotBegun (refusalOf NO-PLAN))
+  not-listed : {t : Table} {w : Whole} {k : ℕ} → Leaves t w words → Meant t mode k → (T (isListed t k) → ⊥) → Begins words mode (NotBegun (refusalOf NO-MODE))
   begun : {t : Table} {w : Whole} {k : ℕ} → Leaves t w words → Meant t mode k → T (isListed t k)
       → Begins words mode (Begun (machine (Run.begin (planOf t w) k .now)))
 
@@ -59,7 +60,7 @@ accepting p m mode clock =
 -- The answer to a request: 15 where no accepted table leaves the words, then the first of 16 and 11 to 14 that applies; and otherwise the delay, with the machine in the
 -- new mode, which starts at F + d.
 pub data Answers (words : List ℕ) (m : Machine) (mode : ℕ) (clock : Tick) : Answer → Type 0 where
-  not-stored : (Stored words → ⊥) → Answers words m mode clock (refusing m 15)
+  not-stored : (Stored words → ⊥) → Answers words m mode clock (refusing m NO-PLAN)
   refused : {t : Table} {w : Whole} {n : ℕ} → Leaves t w words → Run.refusal (planOf t w) (seen m) (asking mode clock) ≡ suc n
       → Answers words m mode clock (refusing m (suc n))
   accepted : {t : Table} {w : Whole} → Leaves t w words → Run.refusal (planOf t w) (seen m) (asking mode clock) ≡ 0

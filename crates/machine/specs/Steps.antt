@@ -5,6 +5,7 @@ use Rattle.units.specs.Bounds.{MOST-START}
 use Rattle.units.specs.Limits.{MODES, ITERATION-LIMIT, CLOCK-LIMIT}
 use Rattle.units.specs.declared.Tick.{Tick}
 use Rattle.units.specs.Ticks.{tick, greaterTick}
+use Rattle.terms.specs.Place.{placeOf}
 use Rattle.graph.specs.declared.shape.Table.{Table}
 use Rattle.whole.specs.declared.Whole.{Whole}
 use Rattle.whole.specs.Whole.{changeAt}
@@ -19,7 +20,7 @@ abbrev pub lowestOf : Table → ℕ
 lowestOf t = lowestOr (isListed t) 0 MODES 1
 
 abbrev pub courseOf : Whole → ℕ → ℕ → Course
-courseOf w o l = record { iteration = partOf w o .iteration; old = partOf w o .startup; new = partOf w l .startup; offset = changeAt w (o - 1) (l - 1) .offset }
+courseOf w o l = record { iteration = partOf w o .iteration; old = partOf w o .startup; new = partOf w l .startup; offset = changeAt w (placeOf o) (placeOf l) .offset }
 
 -- ticks so small that every sum fits
 pub record Near (m : Machine) (c : Course) (t : Tick) : Type 0 where

@@ -4,8 +4,15 @@ mod modes;
 use modes::listed;
 use modes::lowest;
 use planner::recall;
+use terms::place::place_of;
+use terms::refusal::NO_MACHINE;
+use terms::refusal::NO_MODE;
+use terms::refusal::NO_PLAN;
+use terms::refusal::PAST_CLOCK;
 use terms::refusal::Place;
 use terms::refusal::Refusal;
+use terms::refusal::SAME_MODE;
+use terms::refusal::UNENDED;
 use units::Tick;
 use units::limits::CLOCK_LIMIT;
 ghost use mathlib.Core.Path.{_≡_};
@@ -57,15 +64,15 @@ pub fn start(words: &[u64], mode: u64) -> Beginning
 {
     let recalled = recall(words);
     if !recalled.good {
-        return Beginning::Refused(refusal(15));
+        return Beginning::Refused(refusal(NO_PLAN));
     }
     let table = recalled.table;
     let whole = recalled.whole;
     let chosen = if mode == 0 { lowest(table) } else { mode };
     if !listed(table, chosen) {
-        return Beginning::Refused(refusal(11));
+        return Beginning::Refused(refusal(NO_MODE));
     }
-    let place = chosen as usize - 1;
+    let place = place_of(chosen);
     let part = whole.parts[place];
     let ended = part.startup;
     Beginning::Begun(Machine {
@@ -116,29 +123,29 @@ impl Machine {
     {
         let recalled = recall(words);
         if !recalled.good {
-            return self.refuse(15);
+            return self.refuse(NO_PLAN);
         }
         let table = recalled.table;
         let whole = recalled.whole;
         if !listed(table, self.mode) {
-            return self.refuse(16);
+            return self.refuse(NO_MACHINE);
         }
         let started = self.started;
         let ended = self.ended;
         if !started.at_most(ended) {
-            return self.refuse(16);
+            return self.refuse(NO_MACHINE);
         }
         if !listed(table, mode) {
-            return self.refuse(11);
+            return self.refuse(NO_MODE);
         }
         if mode == self.mode {
-            return self.refuse(12);
+            return self.refuse(SAME_MODE);
         }
         if !clock.at_most(CLOCK_LIMIT) {
-            return self.refuse(13);
+            return self.refuse(PAST_CLOCK);
         }
         if !ended.at_most(clock) {
-            return self.refuse(14);
+            return self.refuse(UNENDED);
         }
         self.change(modes::course(whole, self.mode, mode), mode, clock)
     }

@@ -1,6 +1,8 @@
 // The modes of a plan, by their numbers.
 use crate::Course;
 use graph::shape::Table;
+use terms::place::number_of;
+use terms::place::place_of;
 use units::limits::MODES;
 use whole::Whole;
 ghost use mathlib.Core.Path.{_≡_};
@@ -19,7 +21,7 @@ pub(crate) fn listed(table: Table, mode: u64) -> bool
     if mode > MODES as u64 {
         return false;
     }
-    let place = mode as usize - 1;
+    let place = place_of(mode);
     let at = table.modes[place];
     at.active != 0
 }
@@ -31,7 +33,7 @@ pub(crate) fn lowest(table: Table) -> u64
     for k in 0..MODES {
         let mode = table.modes[k];
         if mode.active != 0 {
-            return k as u64 + 1;
+            return number_of(k);
         }
     }
     0
@@ -42,8 +44,8 @@ pub(crate) fn course(whole: Whole, old: u64, new: u64) -> Course
     requires { ⌜ (1 ≤ old) × (old ≤ MODES) × (1 ≤ new) × (new ≤ MODES) ⌝ }
     ensures { λ r. ⌜ r ≡ courseOf whole old new ⌝ }
 {
-    let from = old as usize - 1;
-    let to = new as usize - 1;
+    let from = place_of(old);
+    let to = place_of(new);
     let left = whole.parts[from];
     let entered = whole.parts[to];
     let timing = whole.changes[MODES * from + to];

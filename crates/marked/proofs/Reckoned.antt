@@ -2,7 +2,7 @@
 use mathlib.Core.Path.{_≡_, refl, sym, ap, subst, _∙_}
 use mathlib.Core.Bool.{Bool, true, false, cond, not, _&&_}
 use mathlib.Core.List.{List}
-use Prim.Native.Nat.{ℕ, suc, _+_, _*_, _/_, _%_, _<_}
+use Prim.Native.Nat.{ℕ, _+_, _*_, _/_, _%_, _<_}
 use native.Mathlib.Omega.{arith}
 use borrow.Author.Tests.{eqb-true, eqb-false}
 use lib.Dec.{eqb}
@@ -14,6 +14,7 @@ use Rattle.units.specs.declared.Tick.{Tick}
 use Rattle.units.specs.Ticks.{greaterTick}
 use Rattle.terms.specs.declared.refusal.Place.the-variants.{Mode as AtMode, Actor as AtActor, Processor as AtProcessor}
 use Rattle.terms.specs.declared.refusal.Refusal.{Refusal}
+use Rattle.terms.specs.Place.{numberOf}
 use Rattle.graph.specs.declared.shape.Mode.{Mode}
 use Rattle.graph.specs.declared.shape.Table.{Table}
 use Rattle.graph.specs.declared.Verdict.{Verdict}
@@ -46,8 +47,8 @@ abbrev answerBy : ℕ → Verdict → Lateness → Answer
 answerBy n Cyclic t = IsRefused (refusal 6 (AtMode n))
 answerBy n Ends t = IsRefused (refusal 7 (AtMode n))
 answerBy n Unbalanced t = IsRefused (refusal 8 (AtMode n))
-answerBy n (Overloaded p) t = IsRefused (refusal 9 (AtProcessor n p))
-answerBy n Sound (Late a) = IsRefused (refusal 10 (AtActor n (suc a)))
+answerBy n (Overloaded p) t = IsRefused (refusal 9 (AtProcessor n (numberOf p)))
+answerBy n Sound (Late a) = IsRefused (refusal 10 (AtActor n (numberOf a)))
 answerBy n Sound OnTime = IsPlanned
 
 -- what comes of a mode with an actor, and of any mode

@@ -14,7 +14,7 @@ use Rattle.numbers.specs.Lowest.{sought, lowest-is, FirstPasses, NonePasses}
 use Rattle.numbers.specs.Sum.{sum-none}
 use Rattle.numbers.specs.declared.fraction.Fraction.{Fraction}
 use Rattle.units.specs.Bounds.{MOST-START}
-use Rattle.units.specs.Limits.{MODES, ACTORS, PROCESSORS, ITERATION-LIMIT}
+use Rattle.units.specs.Limits.{MODES, ACTORS, PROCESSORS, ITERATION-LIMIT, LOAD-LIMIT}
 use Rattle.units.specs.Firings.{firing}
 use Rattle.units.specs.declared.Tick.{Tick}
 use Rattle.units.specs.Ticks.{tick}
@@ -26,7 +26,7 @@ use Rattle.change.specs.Change.{Changes, Ready, starts-after, actorIn, askedBy 
 use Rattle.whole.specs.declared.Whole.{Whole}
 use Rattle.whole.specs.Whole.{Listed, changeAt, runningOf, Planned}
 use Rattle.whole.proofs.Running.{listed-some, listed-none}
-use Rattle.run.specs.Plan.{Acts, startup, whole}
+use Rattle.run.specs.Plan.{Acts, startup}
 use Rattle.run.specs.Machine.{worst}
 use Rattle.run.proofs.Sound.{Sound, askedOf}
 use Rattle.planned.specs.Plan.{modeOf, partOf, isListed, processorOf, planOf}
@@ -63,7 +63,7 @@ nowhere r ready q n counts =
     go i l false e b f c = omega arith
 
 -- nothing, twice, is at most the whole
-neither : (a b : Fraction) → a .over ≡ 0 → b .over ≡ 0 → AtMost (plus a b) whole
+neither : (a b : Fraction) → a .over ≡ 0 → b .over ≡ 0 → AtMost (plus a b) LOAD-LIMIT
 neither a b p q = omega (arith, ap (λ (n : ℕ). n * b .under) p, ap (λ (n : ℕ). n * a .under) q)
 
 module _ (t : Table) (proper : ProperTable t) where
@@ -156,18 +156,18 @@ module _ (t : Table) (w : Whole) (proper : ProperTable t) (planned : Planned t w
         balanced = λ m c h l k. runs m h .balanced c l k;
         fed = λ m c h l n some e ended. runs m h .fed c l n some (firing e) ended;
         sized = λ m c h l x b e v begun ended claimed. runs m h .size c l .greatest v (tick x, (firing b, firing e, begun, ended, claimed));
-        load = λ m q h. subst (λ (f : Fraction). AtMost f whole) (sym (asked m q h (λ i. true))) (alone m q h (processor-or-not q));
+        load = λ m q h. subst (λ (f : Fraction). AtMost f LOAD-LIMIT) (sym (asked m q h (λ i. true))) (alone m q h (processor-or-not q));
         change = λ o l q k ho hl other d s.
-            subst₂ (λ (f g : Fraction). AtMost (plus f g) whole) (sym (asked o q ho _)) (sym (asked l q hl _))
+            subst₂ (λ (f g : Fraction). AtMost (plus f g) LOAD-LIMIT) (sym (asked o q ho _)) (sym (asked l q hl _))
             (together o l q k ho hl other d s (processor-or-not q));
         waits = λ o l i ho hl other a b. starts-after (running o) (running l) (changes o l ho hl other) i (acts o i a) (acts l i b);
       }
     where
-      alone : (m q : ℕ) → T (isListed t m) → Dec (Processor q) → AtMost (asksOf (running m) q (λ i. true)) whole
+      alone : (m q : ℕ) → T (isListed t m) → Dec (Processor q) → AtMost (asksOf (running m) q (λ i. true)) LOAD-LIMIT
       alone m q h (yes p) = runs m h .ready .load q (p .0) (p .1)
       alone m q h (no n) = omega (arith, nowhere (running m) (runs m h .ready) q n (λ i. true))
 
       together : (o l q k : ℕ) → T (isListed t o) → T (isListed t l) → l ≢ o → planOf t w .offset o l ≤ k → k ≤ startup (planOf t w) o → Dec (Processor q)
-          → AtMost (plus (asksOf (running o) q (λ i. ltb k (planOf t w .start o i))) (asksOf (running l) q (λ i. leb (planOf t w .offset o l + planOf t w .start l i) k))) whole
+          → AtMost (plus (asksOf (running o) q (λ i. ltb k (planOf t w .start o i))) (asksOf (running l) q (λ i. leb (planOf t w .offset o l + planOf t w .start l i) k))) LOAD-LIMIT
       together o l q k ho hl other d s (yes p) = changes o l ho hl other .offset .holds .2 k q d (omega (arith, s, startup-is o ho)) (p .0) (p .1)
       together o l q k ho hl other d s (no n) = neither _ _ (nowhere (running o) (runs o ho .ready) q n _) (nowhere (running l) (runs l hl .ready) q n _)

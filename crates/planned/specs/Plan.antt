@@ -1,5 +1,5 @@
 -- The plan of a table as the run sees it: modes by their numbers from 1, actors and channels by their places from 0, ticks, firings and tokens as plain numbers.
-use Prim.Native.Nat.{ℕ, _-_}
+use Prim.Native.Nat.{ℕ}
 use mathlib.Core.Bool.{Bool, not, _&&_}
 use lib.Dec.{eqb, leb}
 use lib.ListN.{getD, take}
@@ -10,6 +10,7 @@ use Rattle.units.specs.Firings.{firing}
 use Rattle.units.specs.Ticks.{tick}
 use Rattle.units.specs.Tokens.{token}
 use Rattle.rate.specs.Rate.{rateOf}
+use Rattle.terms.specs.Place.{placeOf}
 use Rattle.graph.specs.declared.shape.Mode.{Mode}
 use Rattle.graph.specs.declared.shape.Table.{Table}
 use Rattle.graph.specs.Shape.{actorAt, channelAt, modeAt}
@@ -18,12 +19,12 @@ use Rattle.whole.specs.declared.Whole.{Whole}
 use Rattle.whole.specs.Whole.{partAt, changeAt}
 use Rattle.run.specs.Plan.{Plan}
 
--- mode m, and what is planned of it: the mode with number m stands at place m - 1
+-- mode m, and what is planned of it
 abbrev pub modeOf : Table → ℕ → Mode
-modeOf t m = modeAt t (m - 1)
+modeOf t m = modeAt t (placeOf m)
 
 abbrev pub partOf : Whole → ℕ → Part
-partOf w m = partAt w (m - 1)
+partOf w m = partAt w (placeOf m)
 
 -- whether there is such a mode, with an actor
 abbrev pub isListed : Table → ℕ → Bool
@@ -52,5 +53,5 @@ planOf t w =
       production = λ m c. rateOf (take (actorAt (modeOf t m) (channelAt (modeOf t m) c .from) .phases) (channelAt (modeOf t m) c .production));
       consumption = λ m c. rateOf (take (actorAt (modeOf t m) (channelAt (modeOf t m) c .to) .phases) (channelAt (modeOf t m) c .consumption));
       size = λ m c. getD (partOf w m .sizes) c (token 0) .0;
-      offset = λ o l. changeAt w (o - 1) (l - 1) .offset .0;
+      offset = λ o l. changeAt w (placeOf o) (placeOf l) .offset .0;
     }

@@ -1,15 +1,15 @@
-// The planner: a table into the caller's words, whether words are such a plan, and what is printed of one.
+// The planner: a table into the caller's words, the plan that words hold, and what is printed of one.
 use graph::shape::Table;
 use layout::WORDS;
 use printer::PRINTED;
 use proper::proper;
+use terms::refusal::NO_PLAN;
 use terms::refusal::Place;
 use terms::refusal::Refusal;
 use whole::Whole;
 use whole::plan_of;
 ghost use mathlib.Core.Path.{_≡_};
-ghost use Rattle.numbers.specs.Decides.{Decides};
-ghost use Rattle.planner.specs.Plans.{noPlan, Plans, Stored, Recalls, forgotten, Prints};
+ghost use Rattle.planner.specs.Plans.{noPlan, Plans, Recalls, forgotten, Prints};
 
 // What is answered for a table.
 pub enum Answer {
@@ -34,7 +34,10 @@ fn no_plan() -> Refusal
     ensures { λ r. ⌜ r ≡ noPlan ⌝ }
 {
     let place = Place::Nowhere;
-    Refusal { number: 15, place }
+    Refusal {
+        number: NO_PLAN,
+        place,
+    }
 }
 
 // Plans the table of a text into the words; a text that is refused leaves them as they stood.
@@ -95,14 +98,6 @@ pub fn recall(words: &[u64]) -> Recalled
         table,
         whole,
     }
-}
-
-// Whether words are exactly what some accepted table leaves.
-pub fn stored(words: &[u64]) -> bool
-    ensures { λ r. ⌜ Decides (Stored (now (words .entry))) r ⌝ }
-{
-    let recalled = recall(words);
-    recalled.good
 }
 
 // Prints the plan that words hold, in a buffer of the one length.

@@ -8,6 +8,7 @@ use native.Mathlib.Omega.{arith}
 use lib.Dec.{ltb}
 use lib.ListN.{length, length-append}
 use borrow.Author.Tests.{ltb-true, ltb-false, lt-ltb, le-ltb}
+use Rattle.numbers.specs.Digits.{digits, digits-above, digits-some}
 use Rattle.table.specs.Decimal.{decimalFrom, decimal}
 use Rattle.table.proofs.Written.{decimal-steps}
 
@@ -33,3 +34,11 @@ digits-most (suc k) n h = go (ltb n 10) refl (digits-most k (n / 10))
     go false e ih =
         rw (decimal-more n (ltb-false n 10 e))
         (omega (arith, ih (omega arith), length-append (decimal (n / 10)) ((48 + n % 10) ∷ [])))
+
+-- and one that is at most another has at most as many
+pub digits-within : (n most : ℕ) → most < 10 ^ 20 → n ≤ most → length (decimal n) ≤ digits most
+digits-within n most small h = go (digits most) (digits-above 19 most small) (digits-some 19 most)
+  where
+    go : (d : ℕ) → most < 10 ^ d → 0 < d → length (decimal n) ≤ d
+    go zero l some = absurd (omega arith)
+    go (suc k) l some = digits-most k n (omega (arith, l))

@@ -5,11 +5,14 @@ use mathlib.Core.List.{List, [], _∷_, _++_, append-assoc}
 use Prim.Native.Nat.{ℕ, zero, suc, _+_, _*_, _-_, _^_, _≤_, _<_}
 use native.Mathlib.Nat.{le-trans}
 use native.Mathlib.Omega.{arith}
-use lib.Dec.{eqb, leb}
+use lib.Dec.{T, eqb, leb, ltb, ltb→lt}
 use lib.ListN.{length, getD, length-append}
 use borrow.Author.Tests.{leb-true, leb-false, eq-eqb}
 use Rattle.numbers.specs.Bits.{hasb}
-use Rattle.units.specs.Limits.{MODES, ACTORS, CHANNELS}
+use Rattle.numbers.specs.Digits.{digits}
+use Rattle.units.specs.Bounds.{MOST-FIRINGS, MOST-CARRIED, MOST-START, MOST-DELAY, MOST-SIZE}
+use Rattle.units.specs.Limits.{MODES, ACTORS, CHANNELS, ITERATION-LIMIT}
+use Rattle.terms.specs.Place.{numberOf}
 use Rattle.terms.specs.Text.{bytes}
 use Rattle.terms.specs.declared.refusal.Printed.{Printed}
 use Rattle.table.specs.Decimal.{decimal}
@@ -25,7 +28,7 @@ use Rattle.printer.specs.declared.bytes.Five.{Five}
 use Rattle.printer.specs.Laid.{texts}
 use Rattle.printer.specs.Printed.{lineText, five, actorText, channelText, changeText, actorsText, channelsText, modeText, fromText, changesText, modesText, activeOf, planText, printedText}
 use Rattle.printer.specs.Printed.{firingsAt, periodAt, startAt, sizeAt, tokensAt, changeAt, ACTOR-LINE, CHANNEL-LINE, CHANGE-LINE, PRINTED, SmallPart, SmallTiming, Small}
-use Rattle.printer.proofs.Digits.{digits-most}
+use Rattle.printer.proofs.Digits.{digits-most, digits-within}
 
 -- a comma and a number; what stands in a line from its last fields on
 abbrev pub fieldText : ℕ → List ℕ
@@ -53,9 +56,9 @@ pub line-parts : (word : List ℕ) (x : Five) → lineText word x ≡ word ++ fr
 unfolding lineText joined
 line-parts word x = simp append-assoc
 
--- a line whose numbers have at most so many digits, each one more than said
-line-most : (p q r s t : ℕ) (word : List ℕ) (x : Five) → x .0 < 10 ^ suc p → x .1 < 10 ^ suc q → x .2 < 10 ^ suc r → x .3 < 10 ^ suc s → x .4 < 10 ^ suc t
-    → length (lineText word x) ≤ length word + 12 + (p + q + r + s + t)
+-- a line whose numbers have at most so many digits
+line-most : (p q r s t : ℕ) (word : List ℕ) (x : Five) → length (decimal (x .0)) ≤ p → length (decimal (x .1)) ≤ q → length (decimal (x .2)) ≤ r
+    → length (decimal (x .3)) ≤ s → length (decimal (x .4)) ≤ t → length (lineText word x) ≤ length word + 7 + (p + q + r + s + t)
 line-most p q r s t word x a b c d e =
     rw line-parts
     (omega (
@@ -66,12 +69,11 @@ line-most p q r s t word x a b c d e =
       length-append (decimal (x .2)) (from-3 x),
       length-append (decimal (x .3)) (from-4 x),
       length-append (decimal (x .4)) end,
-      digits-most p (x .0) a,
-      digits-most q (x .1) b,
-      digits-most r (x .2) c,
-      digits-most s (x .3) d,
-      digits-most t (x .4) e,
     ))
+
+-- the digits of a number that is at most another, which has no more than 20
+within : (n most : ℕ) → T (ltb most (10 ^ 20)) → n ≤ most → length (decimal n) ≤ digits most
+within n most small h = digits-within n most (ltb→lt most (10 ^ 20) small) h
 
 cond-most : (b : Bool) (s : List ℕ) (n : ℕ) → length s ≤ n → length (cond b s []) ≤ n
 cond-most true s n h = h
@@ -99,13 +101,17 @@ module _ (m : ℕ) (M : Mode) (p : Part) (h : m < MODES) (s : SmallPart M p) whe
   actor-most : (i : ℕ) → i < ACTORS → length (actorText m (M .active) i (firingsAt p i) (periodAt p i) (startAt p i)) ≤ ACTOR-LINE
   actor-most i l =
       cond-most (hasb (M .active) i) _ ACTOR-LINE
-      (line-most 0 1 7 7 9 (bytes "actor") (five (m + 1) (i + 1) (firingsAt p i .0) (periodAt p i .0) (startAt p i .0))
-      (omega arith) (omega arith) (omega (arith, s .firings i l)) (omega (arith, s .periods i l)) (omega (arith, s .starts i l)))
+      (line-most (digits MODES) (digits ACTORS) (digits (MOST-FIRINGS .0)) (digits (ITERATION-LIMIT .0)) (digits (MOST-START .0)) (bytes "actor")
+      (five (numberOf m) (numberOf i) (firingsAt p i .0) (periodAt p i .0) (startAt p i .0))
+      (within _ MODES tt (omega arith)) (within _ ACTORS tt (omega arith)) (within _ (MOST-FIRINGS .0) tt (s .firings i l)) (within _ (ITERATION-LIMIT .0) tt (s .periods i l))
+      (within _ (MOST-START .0) tt (s .starts i l)))
 
   channel-most : (k : ℕ) → k < M .count → length (channelText m (channelAt M k) (sizeAt p k) (tokensAt p k)) ≤ CHANNEL-LINE
   channel-most k l =
-      line-most 0 1 1 14 9 (bytes "channel") (five (m + 1) (channelAt M k .from + 1) (channelAt M k .to + 1) (sizeAt p k .0) (tokensAt p k .0))
-      (omega arith) (omega (arith, s .from k l)) (omega (arith, s .to k l)) (omega (arith, s .sizes k l)) (omega (arith, s .tokens k l))
+      line-most (digits MODES) (digits ACTORS) (digits ACTORS) (digits (MOST-SIZE .0)) (digits (MOST-CARRIED .0)) (bytes "channel")
+      (five (numberOf m) (numberOf (channelAt M k .from)) (numberOf (channelAt M k .to)) (sizeAt p k .0) (tokensAt p k .0))
+      (within _ MODES tt (omega arith)) (within _ ACTORS tt (omega (arith, s .from k l))) (within _ ACTORS tt (omega (arith, s .to k l))) (within _ (MOST-SIZE .0) tt (s .sizes k l))
+      (within _ (MOST-CARRIED .0) tt (s .tokens k l))
 
   mode-most : length (modeText m M p) ≤ ACTORS * ACTOR-LINE + CHANNELS * CHANNEL-LINE
   mode-most =
@@ -119,8 +125,10 @@ module _ (active : List ℕ) (cs : List Timing) (small : (o n : ℕ) → o < MOD
       let s = small o n h l in
       let t = changeAt cs o n in
       cond-most (not (eqb (getD active o 0) 0) && (not (eqb (getD active n 0) 0) && not (eqb o n))) _ CHANGE-LINE
-      (line-most 0 0 9 9 9 (bytes "change") (five (o + 1) (n + 1) (t .overlap .0) (t .offset .0) (t .worst .0))
-      (omega arith) (omega arith) (omega (arith, s .overlap)) (omega (arith, s .offset)) (omega (arith, s .worst)))
+      (line-most (digits MODES) (digits MODES) (digits (MOST-START .0)) (digits (MOST-START .0)) (digits (MOST-DELAY .0)) (bytes "change")
+      (five (numberOf o) (numberOf n) (t .overlap .0) (t .offset .0) (t .worst .0))
+      (within _ MODES tt (omega arith)) (within _ MODES tt (omega arith)) (within _ (MOST-START .0) tt (s .overlap)) (within _ (MOST-START .0) tt (s .offset))
+      (within _ (MOST-DELAY .0) tt (s .worst)))
 
   -- a mode does not change to itself
   change-none : changeText o o (getD active o 0) (getD active o 0) (changeAt cs o o) ≡ []
@@ -154,9 +162,13 @@ pub record Fitting (p : Printed) : Type 0 where
   pub actor : p .actor < 2 ^ 64
   pub processor : p .processor < 2 ^ 64
 
+-- a word has at most 20 digits
+word : {n : ℕ} → n < 2 ^ 64 → length (decimal n) ≤ 20
+word {n} h = digits-most 19 n (omega (arith, h))
+
 pub refusal-fits : (p : Printed) → Fitting p → length (printedText p) ≤ PRINTED
 refusal-fits p f =
     le-trans
-    (line-most 19 19 19 19 19 (bytes "refused") (five (p .number) (p .row) (p .mode) (p .actor) (p .processor))
-    (omega (arith, f .number)) (omega (arith, f .row)) (omega (arith, f .mode)) (omega (arith, f .actor)) (omega (arith, f .processor)))
+    (line-most 20 20 20 20 20 (bytes "refused") (five (p .number) (p .row) (p .mode) (p .actor) (p .processor))
+    (word (f .number)) (word (f .row)) (word (f .mode)) (word (f .actor)) (word (f .processor)))
     (omega arith)

@@ -7,6 +7,7 @@ use Prim.Native.Nat.{ℕ, _+_, _*_, _-_, _≤_, _<_}
 use lib.Dec.{eqb}
 use lib.ListN.{length, getD, replicate}
 use Rattle.numbers.specs.Bits.{hasb}
+use Rattle.numbers.specs.Digits.{digits}
 use Rattle.numbers.specs.Tab.{tab}
 use Rattle.units.specs.declared.Firing.{Firing}
 use Rattle.units.specs.declared.Tick.{Tick}
@@ -16,6 +17,7 @@ use Rattle.units.specs.Tokens.{token}
 use Rattle.units.specs.Bounds.{MOST-FIRINGS, MOST-CARRIED, MOST-START, MOST-DELAY, MOST-SIZE}
 use Rattle.units.specs.Limits.{MODES, ACTORS, CHANNELS, ITERATION-LIMIT}
 use Rattle.units.specs.Firings.{firing}
+use Rattle.terms.specs.Place.{numberOf}
 use Rattle.terms.specs.Refusal.{printedOf}
 use Rattle.terms.specs.Text.{bytes}
 use Rattle.terms.specs.declared.refusal.Printed.{Printed}
@@ -63,17 +65,17 @@ five a b c d e = record { 0 = a; 1 = b; 2 = c; 3 = d; 4 = e }
 
 -- an actor, where it is active: mode, number, firings in an iteration, period and start
 abbrev pub actorText : ℕ → ℕ → ℕ → Firing → Tick → Tick → List ℕ
-actorText m active i q period start = cond (hasb active i) (lineText (bytes "actor") (five (m + 1) (i + 1) (q .0) (period .0) (start .0))) []
+actorText m active i q period start = cond (hasb active i) (lineText (bytes "actor") (five (numberOf m) (numberOf i) (q .0) (period .0) (start .0))) []
 
 -- a channel: mode, the actors that it leads from and to, size, and tokens in an iteration
 abbrev pub channelText : ℕ → Channel → Token → Token → List ℕ
-channelText m c size tokens = lineText (bytes "channel") (five (m + 1) (c .from + 1) (c .to + 1) (size .0) (tokens .0))
+channelText m c size tokens = lineText (bytes "channel") (five (numberOf m) (numberOf (c .from)) (numberOf (c .to)) (size .0) (tokens .0))
 
 -- a change, where it is one between two different modes that are listed, by their active sets: old, new, overlap, offset and worst delay
 abbrev pub changeText : ℕ → ℕ → ℕ → ℕ → Timing → List ℕ
 changeText o n old new t =
     cond (not (eqb old 0) && (not (eqb new 0) && not (eqb o n)))
-    (lineText (bytes "change") (five (o + 1) (n + 1) (t .overlap .0) (t .offset .0) (t .worst .0)))
+    (lineText (bytes "change") (five (numberOf o) (numberOf n) (t .overlap .0) (t .offset .0) (t .worst .0)))
     []
 
 -- a mode: its actors in ascending order, then its channels in the order in which they are listed
@@ -112,16 +114,15 @@ printedText p = lineText (bytes "refused") (five (p .number) (p .row) (p .mode) 
 abbrev pub refusalText : Refusal → List ℕ
 refusalText r = printedText (printedOf r)
 
--- the most bytes of a line: its word, five commas, its numbers, and CRLF. Modes have 1 digit, actors 2, firings and periods 8, starts,
--- tokens and the three numbers of a change 10, and sizes 15.
+-- the most bytes of a line: its word, five commas, its numbers, and CRLF
 abbrev pub ACTOR-LINE : ℕ
-ACTOR-LINE = 5 + 5 + (1 + 2 + 8 + 8 + 10) + 2
+ACTOR-LINE = 5 + 5 + (digits MODES + digits ACTORS + digits (MOST-FIRINGS .0) + digits (ITERATION-LIMIT .0) + digits (MOST-START .0)) + 2
 
 abbrev pub CHANNEL-LINE : ℕ
-CHANNEL-LINE = 7 + 5 + (1 + 2 + 2 + 15 + 10) + 2
+CHANNEL-LINE = 7 + 5 + (digits MODES + digits ACTORS + digits ACTORS + digits (MOST-SIZE .0) + digits (MOST-CARRIED .0)) + 2
 
 abbrev pub CHANGE-LINE : ℕ
-CHANGE-LINE = 6 + 5 + (1 + 1 + 10 + 10 + 10) + 2
+CHANGE-LINE = 6 + 5 + (digits MODES + digits MODES + digits (MOST-START .0) + digits (MOST-START .0) + digits (MOST-DELAY .0)) + 2
 
 -- the length of the buffer: no plan has more bytes
 abbrev pub PRINTED : ℕ

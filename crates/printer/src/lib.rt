@@ -5,6 +5,7 @@ mod lines;
 use crate::bytes::Five;
 use graph::shape::Table;
 use terms::refusal::Refusal;
+use units::digits;
 use units::limits::ACTORS;
 use units::limits::CHANNELS;
 use units::limits::MODES;
@@ -15,11 +16,20 @@ ghost use Rattle.printer.specs.Laid.{Room, Laid};
 ghost use Rattle.printer.specs.Printed.{PRINTED as PRINTED-LIMIT, Small, Shows, planText, refusalText, modesText};
 
 // The most bytes of a line: its word, five commas, its numbers, and CRLF.
-const ACTOR_LINE: usize = 5 + 5 + (1 + 2 + 8 + 8 + 10) + 2;
+const ACTOR_LINE: usize = 5
+    + 5
+    + (digits::MODE + digits::ACTOR + digits::FIRINGS + digits::PERIOD + digits::START)
+    + 2;
 
-const CHANNEL_LINE: usize = 7 + 5 + (1 + 2 + 2 + 15 + 10) + 2;
+const CHANNEL_LINE: usize = 7
+    + 5
+    + (digits::MODE + digits::ACTOR + digits::ACTOR + digits::SIZE + digits::CARRIED)
+    + 2;
 
-const CHANGE_LINE: usize = 6 + 5 + (1 + 1 + 10 + 10 + 10) + 2;
+const CHANGE_LINE: usize = 6
+    + 5
+    + (digits::MODE + digits::MODE + digits::START + digits::START + digits::DELAY)
+    + 2;
 
 // The length of the buffer: no plan has more bytes.
 pub const PRINTED: usize = MODES * (ACTORS * ACTOR_LINE + CHANNELS * CHANNEL_LINE)

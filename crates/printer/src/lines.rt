@@ -6,6 +6,7 @@ use change::Timing;
 use graph::shape::Channel;
 use graph::shape::Mode;
 use graph::shape::Table;
+use terms::place::number_of;
 use units::Firing;
 use units::Tick;
 use units::Token;
@@ -37,8 +38,8 @@ fn actor(
         return at;
     }
     let numbers = Five(
-        m as u64 + 1,
-        i as u64 + 1,
+        number_of(m),
+        number_of(i),
         q.firings(),
         period.ticks(),
         start.ticks(),
@@ -80,9 +81,9 @@ fn channel(
     ensures { λ r. ⌜ Laid (now (out .entry)) at (channelText m channel size tokens) (now (out .exit)) r ⌝ }
 {
     let numbers = Five(
-        m as u64 + 1,
-        channel.from as u64 + 1,
-        channel.to as u64 + 1,
+        number_of(m),
+        number_of(channel.from),
+        number_of(channel.to),
         size.tokens(),
         tokens.tokens(),
     );
@@ -133,8 +134,8 @@ fn change(
         return at;
     }
     let numbers = Five(
-        o as u64 + 1,
-        n as u64 + 1,
+        number_of(o),
+        number_of(n),
         timing.overlap.ticks(),
         timing.offset.ticks(),
         timing.worst.ticks(),

@@ -1,5 +1,5 @@
 -- The delay of an accepted request. Assumes nothing.
-use Prim.Native.Nat.{ℕ, zero, suc, _+_, _-_, _*_, _/_, _%_, _^_, _≤_, _<_}
+use Prim.Native.Nat.{ℕ, zero, suc, _+_, _-_, _*_, _/_, _%_, _≤_, _<_}
 use mathlib.Core.Path.{_≡_, refl, sym, ap, _∙_}
 use mathlib.Core.Logic.{_≢_}
 use mathlib.Core.Bool.{Bool, true, false, not, _||_, cond}
@@ -10,6 +10,7 @@ use lib.Dec.{T, ltb, eqb, nltb→le, eqb→eq, eqb-refl, T-not, not-T}
 use lib.Arith.{le→nltb}
 use Rattle.numbers.specs.Extreme.{least-unique}
 use Rattle.numbers.specs.Quotient.{roundedOf, rounded-of}
+use Rattle.units.specs.Limits.{CLOCK-LIMIT}
 use Rattle.run.specs.Plan.{Plan, sinkStart}
 use Rattle.run.specs.Machine.{Machine, Request, refusal, leaving, delay, worst, Run, answer}
 use Rattle.run.specs.Demand.{place, sinkSet}
@@ -34,7 +35,7 @@ pub record Accepted (p : Plan) (m : Machine) (r : Request) : Type 0 where
   pub new : T (p .listed (r .mode))
   pub other : r .mode ≢ m .mode
   pub ordered : m .started ≤ m .ended
-  pub clock : r .tick ≤ 2 ^ 62
+  pub clock : r .tick ≤ CLOCK-LIMIT .0
   pub settled : m .ended ≤ r .tick
 
 cond-zero : (b : Bool) (k x : ℕ) → cond b (suc k) x ≡ 0 → T (not b) × (x ≡ 0)
@@ -68,7 +69,7 @@ module _ (p : Plan) (m : Machine) (r : Request) where
       let (a, h₁) = cond-zero (not (p .listed (m .mode)) || ltb (m .ended) (m .started)) 15 _ h in
       let (b, h₂) = cond-zero (not (p .listed (r .mode))) 10 _ h₁ in
       let (c, h₃) = cond-zero (eqb (r .mode) (m .mode)) 11 _ h₂ in
-      let (d, h₄) = cond-zero (ltb (2 ^ 62) (r .tick)) 12 _ h₃ in
+      let (d, h₄) = cond-zero (ltb (CLOCK-LIMIT .0) (r .tick)) 12 _ h₃ in
       let (e, h₅) = cond-zero (ltb (r .tick) (m .ended)) 13 0 h₄ in
       let (f, g) = not-or (not (p .listed (m .mode))) (ltb (m .ended) (m .started)) a in
       record {
@@ -76,7 +77,7 @@ module _ (p : Plan) (m : Machine) (r : Request) where
         new = not-not (p .listed (r .mode)) b;
         other = λ q. T-not (eqb (r .mode) (m .mode)) c (rw q (eqb-refl (m .mode)));
         ordered = nltb→le (m .ended) (m .started) g;
-        clock = nltb→le (2 ^ 62) (r .tick) d;
+        clock = nltb→le (CLOCK-LIMIT .0) (r .tick) d;
         settled = nltb→le (r .tick) (m .ended) e;
       }
 
@@ -87,7 +88,7 @@ module _ (p : Plan) (m : Machine) (r : Request) where
       (not-or-i (not (p .listed (m .mode))) (ltb (m .ended) (m .started)) (not-not-i (p .listed (m .mode)) (a .old)) (le→nltb (m .ended) (m .started) (a .ordered)))
       (cond-pass (not (p .listed (r .mode))) 11 _ (not-not-i (p .listed (r .mode)) (a .new))
       (cond-pass (eqb (r .mode) (m .mode)) 12 _ (not-T (eqb (r .mode) (m .mode)) (λ t. a .other (eqb→eq (r .mode) (m .mode) t)))
-      (cond-pass (ltb (2 ^ 62) (r .tick)) 13 _ (le→nltb (2 ^ 62) (r .tick) (a .clock))
+      (cond-pass (ltb (CLOCK-LIMIT .0) (r .tick)) 13 _ (le→nltb (CLOCK-LIMIT .0) (r .tick) (a .clock))
       (cond-pass (ltb (r .tick) (m .ended)) 14 0 (le→nltb (r .tick) (m .ended) (a .settled)) refl))))
 
 -- the delay as a function of the two modes and the place
@@ -122,7 +123,7 @@ module _ (p : Plan) (ok : Sound p) where
   reaching m l = record { mode = l; tick = m .started + (p .iteration (m .mode) * roundedOf (m .ended - m .started) (p .iteration (m .mode)) + 1) }
 
   pub delay-reached : (m : Machine) (l : ℕ) → T (p .listed (m .mode)) → T (p .listed l) → l ≢ m .mode → m .started ≤ m .ended
-      → m .ended + p .iteration (m .mode) ≤ 2 ^ 62
+      → m .ended + p .iteration (m .mode) ≤ CLOCK-LIMIT .0
       → (r : Request) × (r .mode ≡ l) × (refusal p m r ≡ 0) × (delay p m r ≡ worst p (m .mode) l)
   unfolding reaching
   delay-reached m l o n other ordered room =

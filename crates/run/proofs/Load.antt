@@ -10,7 +10,8 @@ use lib.Ieee.Fits.{and-l, and-r, and-i}
 use Rattle.numbers.specs.Sum.{sum, sum-le, sum-none}
 use Rattle.numbers.specs.Fraction.{Proper, AtMost, Same, plus, sum-proper, sum-common, nothing}
 use Rattle.numbers.specs.declared.fraction.Fraction.{Fraction}
-use Rattle.run.specs.Plan.{Plan, Acts, startup, isOn, askedBy, whole}
+use Rattle.units.specs.Limits.{LOAD-LIMIT}
+use Rattle.run.specs.Plan.{Plan, Acts, startup, isOn, askedBy}
 use Rattle.run.specs.Machine.{Leave, stays, leaves, Visit}
 use Rattle.run.specs.Firing.{fires, underWay, before, isOpen, tally, asks}
 use Rattle.run.proofs.Sound.{Sound, askedOf}
@@ -84,10 +85,10 @@ pub part-plus : (D : ℕ) (a b : Fraction) (n k : ℕ) → Same a (partsOf D n) 
 part-plus D a b n k e f = omega (arith, ap (λ (x : ℕ). x * b .under) e, ap (λ (x : ℕ). x * a .under) f)
 
 -- a fraction is at most the whole exactly when its parts are at most all of them
-pub part-whole : (D : ℕ) (a : Fraction) (n : ℕ) → 0 < D → Same a (partsOf D n) → n ≤ D → AtMost a whole
+pub part-whole : (D : ℕ) (a : Fraction) (n : ℕ) → 0 < D → Same a (partsOf D n) → n ≤ D → AtMost a LOAD-LIMIT
 part-whole D a n pos e le = le-of-mul-le-mul-right {k = D} (omega (arith, e, mul-le-mul-right (a .under) le)) pos
 
-whole-part : (D : ℕ) (a : Fraction) (n : ℕ) → Proper a → Same a (partsOf D n) → AtMost a whole → n ≤ D
+whole-part : (D : ℕ) (a : Fraction) (n : ℕ) → Proper a → Same a (partsOf D n) → AtMost a LOAD-LIMIT → n ≤ D
 whole-part D a n pos e le = le-of-mul-le-mul-right {k = a .under} (omega (arith, e, mul-le-mul-right D le)) pos
 
 -- every iteration of a listed mode divides D

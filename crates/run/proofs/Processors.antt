@@ -10,7 +10,8 @@ use lib.Dec.{T, leb, ltb, leb→le, ltb→lt, le→leb, lt→ltb}
 use lib.Ieee.Fits.{and-l, and-r}
 use Rattle.numbers.specs.Every.{Every}
 use Rattle.numbers.specs.Fraction.{AtMost, Same}
-use Rattle.run.specs.Plan.{Plan, startup, whole}
+use Rattle.units.specs.Limits.{LOAD-LIMIT}
+use Rattle.run.specs.Plan.{Plan, startup}
 use Rattle.run.specs.Machine.{Machine, Leave, stays, leaves, Visit, visit}
 use Rattle.run.specs.Firing.{total, asks, asked}
 use Rattle.run.proofs.Sound.{Sound}
@@ -91,5 +92,5 @@ module _ (p : Plan) (ok : Sound p) where
     asked-same (v ∷ vs) ((l, w), good) =
         part-plus D (asks p proc t v) (asked p proc t vs) (parts p D proc t v) (total vs (parts p D proc t)) (asks-same p ok D D-common proc t v l) (asked-same vs good)
 
-    pub no-overload : {c : Machine} {vs : List Visit} → Linked p c vs → AtMost (asked p proc t (visit c stays ∷ vs)) whole
+    pub no-overload : {c : Machine} {vs : List Visit} → Linked p c vs → AtMost (asked p proc t (visit c stays ∷ vs)) LOAD-LIMIT
     no-overload {c} {vs} lk = part-whole D (asked p proc t (visit c stays ∷ vs)) _ D-pos (asked-same (visit c stays ∷ vs) (all-good p lk)) (all-parts lk)

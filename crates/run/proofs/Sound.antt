@@ -1,5 +1,5 @@
 -- What the planner shows of an accepted table's plan. Assumes nothing.
-use Prim.Native.Nat.{ℕ, _+_, _*_, _^_, _≤_, _<_}
+use Prim.Native.Nat.{ℕ, _+_, _*_, _≤_, _<_}
 use mathlib.Core.Path.{_≡_}
 use mathlib.Core.Logic.{_≢_}
 use mathlib.Core.Bool.{Bool, true, _&&_, cond}
@@ -8,7 +8,8 @@ use Rattle.numbers.specs.Extreme.{First}
 use Rattle.numbers.specs.Sum.{sum}
 use Rattle.numbers.specs.Fraction.{AtMost, plus, sumOf, nothing}
 use Rattle.numbers.specs.declared.fraction.Fraction.{Fraction}
-use Rattle.run.specs.Plan.{Plan, Acts, startup, isOn, askedBy, whole}
+use Rattle.units.specs.Limits.{CLOCK-LIMIT, LOAD-LIMIT}
+use Rattle.run.specs.Plan.{Plan, Acts, startup, isOn, askedBy}
 
 -- A mode that starts at tick 0 and runs for ever: k firings of actor i have begun by tick x, or ended.
 abbrev pub HaveBegun : Plan → ℕ → ℕ → ℕ → ℕ → Type 0
@@ -27,7 +28,7 @@ pub record Sound (p : Plan) : Type 0 where
   pub below : (m : ℕ) → T (p .listed m) → m < bound
   pub some-tick : (m : ℕ) → T (p .listed m) → 0 < p .iteration m
   -- a fresh machine's request has room below the last tick at which one is answered
-  pub room : (m : ℕ) → T (p .listed m) → startup p m + p .iteration m ≤ 2 ^ 62
+  pub room : (m : ℕ) → T (p .listed m) → startup p m + p .iteration m ≤ CLOCK-LIMIT .0
   pub some-period : (m i : ℕ) → T (p .listed m) → Acts p m i → 0 < p .period m i
   pub filled : (m i : ℕ) → T (p .listed m) → Acts p m i → p .firings m i * p .period m i ≡ p .iteration m
   pub on-time : (m i : ℕ) → T (p .listed m) → Acts p m i → p .start m i ≤ startup p m
@@ -44,8 +45,8 @@ pub record Sound (p : Plan) : Type 0 where
   pub sized : (m c : ℕ) → T (p .listed m) → c < p .channels m → (x b e v : ℕ) → HaveBegun p m (p .from m c) x b → HaveEnded p m (p .to m c) x e
       → sum (p .production m c) b ≡ sum (p .consumption m c) e + v → v ≤ p .size m c
   -- the load of each processor is at most 1, in each mode and at each tick of each change
-  pub load : (m proc : ℕ) → T (p .listed m) → AtMost (askedOf p m proc (λ i. true)) whole
+  pub load : (m proc : ℕ) → T (p .listed m) → AtMost (askedOf p m proc (λ i. true)) LOAD-LIMIT
   pub change : (o l proc k : ℕ) → T (p .listed o) → T (p .listed l) → l ≢ o → p .offset o l ≤ k → k ≤ startup p o
-      → AtMost (plus (askedOf p o proc (λ i. ltb k (p .start o i))) (askedOf p l proc (λ i. leb (p .offset o l + p .start l i) k))) whole
+      → AtMost (plus (askedOf p o proc (λ i. ltb k (p .start o i))) (askedOf p l proc (λ i. leb (p .offset o l + p .start l i) k))) LOAD-LIMIT
   -- a change waits for the actors of both modes
   pub waits : (o l i : ℕ) → T (p .listed o) → T (p .listed l) → l ≢ o → Acts p o i → Acts p l i → p .start o i ≤ p .offset o l + p .start l i

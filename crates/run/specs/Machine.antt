@@ -1,9 +1,11 @@
 -- The running machine: requests, refusals, and the visits of a run.
-use Prim.Native.Nat.{ℕ, _+_, _-_, _*_, _^_, max}
+use Prim.Native.Nat.{ℕ, _+_, _-_, _*_, max}
 use mathlib.Core.Bool.{not, _||_, cond}
 use mathlib.Core.List.{List, [], _∷_}
 use lib.Dec.{ltb, eqb}
 use Rattle.numbers.specs.Quotient.{roundedOf}
+use Rattle.units.specs.Limits.{CLOCK-LIMIT}
+use Rattle.terms.specs.Refusal.{NO-MODE, SAME-MODE, PAST-CLOCK, UNENDED, NO-MACHINE}
 use Rattle.run.specs.Plan.{Plan, sinkStart, startup}
 
 -- a mode, its starting tick, and the tick at which its change ends
@@ -20,11 +22,11 @@ pub record Request : Type 0 where
 -- the number of the refusal, and 0 for a request that is accepted
 unfoldable pub refusal : Plan → Machine → Request → ℕ
 refusal p m r =
-    cond (not (p .listed (m .mode)) || ltb (m .ended) (m .started)) 16
-    (cond (not (p .listed (r .mode))) 11
-    (cond (eqb (r .mode) (m .mode)) 12
-    (cond (ltb (2 ^ 62) (r .tick)) 13
-    (cond (ltb (r .tick) (m .ended)) 14 0))))
+    cond (not (p .listed (m .mode)) || ltb (m .ended) (m .started)) NO-MACHINE
+    (cond (not (p .listed (r .mode))) NO-MODE
+    (cond (eqb (r .mode) (m .mode)) SAME-MODE
+    (cond (ltb (CLOCK-LIMIT .0) (r .tick)) PAST-CLOCK
+    (cond (ltb (r .tick) (m .ended)) UNENDED 0))))
 
 -- F: the old mode is left after whole iterations, (t - s) / H rounded up
 abbrev pub leaving : Plan → Machine → Request → ℕ

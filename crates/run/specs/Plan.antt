@@ -48,7 +48,3 @@ isOn p m proc i = p .active m i && eqb (p .processor i) proc
 -- what an actor asks of its processor: wcet / T
 abbrev pub askedBy : Plan → ℕ → ℕ → Fraction
 askedBy p m i = record { over = p .wcet m i; under = p .period m i }
-
--- all of a processor's time
-abbrev pub whole : Fraction
-whole = record { over = 1; under = 1 }

@@ -5,7 +5,8 @@ use Prim.Native.Nat.{ℕ, zero, suc, _-_}
 use lib.Dec.{eqb, ltb, leb}
 use lib.ListN.{length, getD, set, replicate}
 use Rattle.numbers.specs.Bits.{hasb}
-use Rattle.units.specs.Limits.{MODES, ACTORS, CHANNELS, PHASES, MOST-BYTES, MOST-WCET, PROCESSORS}
+use Rattle.units.specs.Limits.{MODES, ACTORS, CHANNELS, PHASES, MOST-BYTES, MOST-WCET, PROCESSORS, FIELDS}
+use Rattle.terms.specs.Refusal.{UNREADABLE, BAD-FIELD, MISLISTED, ELSEWHERE, BAD-RATES}
 use Rattle.graph.specs.declared.shape.Actor.{Actor as Stage}
 use Rattle.graph.specs.declared.shape.Channel.{Channel as Way}
 use Rattle.graph.specs.declared.shape.Mode.{Mode}
@@ -90,7 +91,7 @@ lineOf none =
 
 -- the number of the refusal of an actor's row, or 0
 unfoldable pub actorListed : ℕ → ℕ → Line → ℕ
-actorListed active home l = cond (hasb active (l .actor)) 3 (cond (not (eqb home 0) && not (eqb home (l .is .processor))) 4 0)
+actorListed active home l = cond (hasb active (l .actor)) MISLISTED (cond (not (eqb home 0) && not (eqb home (l .is .processor))) ELSEWHERE 0)
 
 -- only zeros
 unfoldable pub zeros : List ℕ → Bool
@@ -103,15 +104,15 @@ suitsb r p = eqb (r .count) p && not (zeros (r .values))
 -- the number of the refusal of a channel's row, or 0
 unfoldable pub channelListed : ℕ → ℕ → List Stage → Line → ℕ
 channelListed active count actors l =
-    cond (not (hasb active (l .actor))) 3
-    (cond (not (hasb active (l .to))) 3
-    (cond (leb CHANNELS count) 3
-    (cond (not (suitsb (l .production) (getD actors (l .actor) noActor .phases))) 5
-    (cond (not (suitsb (l .consumption) (getD actors (l .to) noActor .phases))) 5 0))))
+    cond (not (hasb active (l .actor))) MISLISTED
+    (cond (not (hasb active (l .to))) MISLISTED
+    (cond (leb CHANNELS count) MISLISTED
+    (cond (not (suitsb (l .production) (getD actors (l .actor) noActor .phases))) BAD-RATES
+    (cond (not (suitsb (l .consumption) (getD actors (l .to) noActor .phases))) BAD-RATES 0))))
 
 -- the number of a row's refusal, or 0
 abbrev pub refusalOf : ℕ → ℕ → List Stage → ℕ → Line → ℕ
-refusalOf active count actors home l = byKind (l .kind) (actorListed active home l) (channelListed active count actors l) 2
+refusalOf active count actors home l = byKind (l .kind) (actorListed active home l) (channelListed active count actors l) BAD-FIELD
 
 -- whether a row lists an actor
 abbrev pub actorb : Line → Bool
@@ -158,12 +159,12 @@ unfoldable pub readFrom : ℕ → List Row → List ℕ → Outcome
 readFrom zero earlier t = rows earlier
 readFrom (suc k) earlier [] = rows earlier
 readFrom (suc k) earlier (b ∷ t) =
-    onCells (cellsFrom 6 (b ∷ t)) (λ raws rest.
+    onCells (cellsFrom FIELDS (b ∷ t)) (λ raws rest.
     onParsed (parsedOf raws) (λ r.
     let n = judged earlier (row r) .number in
     let further = readFrom k (r ∷ earlier) rest in
     cond (eqb n 0) further (refused n (suc (length earlier))))
-    (refused 2 (suc (length earlier)))) (refused 1 (suc (length earlier)))
+    (refused BAD-FIELD (suc (length earlier)))) (refused UNREADABLE (suc (length earlier)))
 
 unfoldable pub readOf : List ℕ → Outcome
-readOf t = cond (eqb (length t) 0) (refused 1 0) (cond (ltb MOST-BYTES (length t)) (refused 1 0) (readFrom (length t) [] t))
+readOf t = cond (eqb (length t) 0) (refused UNREADABLE 0) (cond (ltb MOST-BYTES (length t)) (refused UNREADABLE 0) (readFrom (length t) [] t))

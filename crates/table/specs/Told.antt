@@ -4,7 +4,8 @@ use mathlib.Core.List.{List, [], _∷_, _++_}
 use mathlib.Core.Logic.{_⊎_}
 use Prim.Native.Nat.{ℕ, suc, _-_, _≤_, _<_}
 use lib.ListN.{length, take, replicate}
-use Rattle.units.specs.Limits.{MOST-BYTES, PHASES}
+use Rattle.units.specs.Limits.{MOST-BYTES, PHASES, FIELDS}
+use Rattle.terms.specs.Refusal.{UNREADABLE, BAD-FIELD, MISLISTED, ELSEWHERE, BAD-RATES}
 use Rattle.terms.specs.declared.refusal.Place.the-variants.{Row as AtRow}
 use Rattle.graph.specs.declared.shape.Table.{Table}
 use Rattle.graph.specs.Shape.{modeAt, emptyTable, withActor, withChannel, withMode}
@@ -22,27 +23,27 @@ pub data Outcome : Type 0 where
 pub data After : List Row → List ℕ → Outcome → Type 0 where
   done : {earlier : List Row} → After earlier [] (rows earlier)
   refused1 : {earlier : List Row} {b : ℕ} {t : List ℕ}
-      → ((cs : List (List ℕ)) (rest : List ℕ) → Begins (b ∷ t) cs rest → length cs ≡ 6 → ⊥)
-      → After earlier (b ∷ t) (refused 1 (suc (length earlier)))
-  refused2 : {earlier : List Row} {t rest : List ℕ} {cs : List (List ℕ)} → Begins t cs rest → length cs ≡ 6
+      → ((cs : List (List ℕ)) (rest : List ℕ) → Begins (b ∷ t) cs rest → length cs ≡ FIELDS → ⊥)
+      → After earlier (b ∷ t) (refused UNREADABLE (suc (length earlier)))
+  refused2 : {earlier : List Row} {t rest : List ℕ} {cs : List (List ℕ)} → Begins t cs rest → length cs ≡ FIELDS
       → ((r : Row) → InRange r → contents r ≡ cs → ⊥)
-      → After earlier t (refused 2 (suc (length earlier)))
+      → After earlier t (refused BAD-FIELD (suc (length earlier)))
   refused3 : {earlier : List Row} {t rest : List ℕ} (r : Row) → InRange r → Begins t (contents r) rest
       → Refused3 earlier r
-      → After earlier t (refused 3 (suc (length earlier)))
+      → After earlier t (refused MISLISTED (suc (length earlier)))
   refused4 : {earlier : List Row} {t rest : List ℕ} (r : Row) → InRange r → Begins t (contents r) rest
       → (Refused3 earlier r → ⊥) → Refused4 earlier r
-      → After earlier t (refused 4 (suc (length earlier)))
+      → After earlier t (refused ELSEWHERE (suc (length earlier)))
   refused5 : {earlier : List Row} {t rest : List ℕ} (r : Row) → InRange r → Begins t (contents r) rest
       → (Refused3 earlier r → ⊥) → (Refused4 earlier r → ⊥) → Refused5 earlier r
-      → After earlier t (refused 5 (suc (length earlier)))
+      → After earlier t (refused BAD-RATES (suc (length earlier)))
   next : {earlier : List Row} {t rest : List ℕ} {o : Outcome} (r : Row) → InRange r → Begins t (contents r) rest
       → Passes earlier r → After (r ∷ earlier) rest o
       → After earlier t o
 
 -- of a whole text: its length first
 pub data Of : List ℕ → Outcome → Type 0 where
-  wrong-length : {t : List ℕ} → (length t ≡ 0) ⊎ (MOST-BYTES < length t) → Of t (refused 1 0)
+  wrong-length : {t : List ℕ} → (length t ≡ 0) ⊎ (MOST-BYTES < length t) → Of t (refused UNREADABLE 0)
   right-length : {t : List ℕ} {o : Outcome} → 0 < length t → length t ≤ MOST-BYTES → After [] t o → Of t o
 
 -- the rates of a list in memory: one for each phase, and 0 behind the last

@@ -15,6 +15,7 @@ mod row;
 use graph::shape::Table;
 use terms::refusal::Place;
 use terms::refusal::Refusal;
+use terms::refusal::UNREADABLE;
 use units::limits::ACTORS;
 use units::limits::MOST_BYTES;
 
@@ -59,7 +60,7 @@ fn rows(text: &[u8]) -> Reading
         row += 1;
         let record = record::record_at(text, at);
         if !record.good {
-            return refused(1, row);
+            return refused(UNREADABLE, row);
         }
         let line = row::line_of(text, record);
         let m = line.mode;
@@ -93,10 +94,10 @@ pub fn read(text: &[u8]) -> Reading
 {
     let length = text.len();
     if length == 0 {
-        return refused(1, 0);
+        return refused(UNREADABLE, 0);
     }
     if MOST_BYTES < length {
-        return refused(1, 0);
+        return refused(UNREADABLE, 0);
     }
     rows(text)
 }

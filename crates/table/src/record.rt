@@ -1,4 +1,4 @@
-// Records of six fields.
+// Records of as many fields as a row has.
 ghost use mathlib.Core.Path.{_≡_};
 ghost use Prim.Native.Nat.{_+_, _≤_, _<_};
 ghost use mathlib.Core.Bool.{false};
@@ -6,6 +6,10 @@ ghost use lib.ListN.{length, drop};
 ghost use Rattle.table.specs.Scan.{plainLen, closed, placed, cellOf, pastComma, pastEnd, pastAt, cellsFrom, FoundIs, StepIs, RecordIs};
 use crate::bytes::Class;
 use crate::bytes::class_at;
+use units::limits::FIELDS;
+
+// The last field.
+const LAST: usize = FIELDS - 1;
 
 // Where the bytes of a field stand: for a quoted one, those between its quotes.
 pub(crate) struct Cell {
@@ -13,10 +17,10 @@ pub(crate) struct Cell {
     pub end: usize,
 }
 
-// A record, where there is one: its six fields, and the place after it.
+// A record, where there is one: its fields, and the place after it.
 pub(crate) struct Record {
     pub good: bool,
-    pub cells: [Cell; 6],
+    pub cells: [Cell; FIELDS],
     pub next: usize,
 }
 
@@ -123,7 +127,7 @@ fn past(s: &[u8], at: usize, i: usize) -> Step
     requires { ⌜ at ≤ length (now s) ⌝ }
     ensures { λ r. ⌜ StepIs (now (s .entry)) (pastAt i (drop at (now (s .entry)))) r ⌝ }
 {
-    if i < 5 {
+    if i < LAST {
         past_comma(s, at)
     } else {
         past_end(s, at)
@@ -133,7 +137,7 @@ fn past(s: &[u8], at: usize, i: usize) -> Step
 fn none() -> Record
     ensures { λ r. ⌜ r .good ≡ false ⌝ }
 {
-    let cells = [Cell { start: 0, end: 0 }; 6];
+    let cells = [Cell { start: 0, end: 0 }; FIELDS];
     Record {
         good: false,
         cells,
@@ -146,9 +150,9 @@ pub(crate) fn record_at(s: &[u8], at: usize) -> Record
     requires { ⌜ at ≤ length (now s) ⌝ }
     ensures { λ r. ⌜ RecordIs (now (s .entry)) (cellsFrom 6 (drop at (now (s .entry)))) r ⌝ }
 {
-    let mut cells = [Cell { start: 0, end: 0 }; 6];
+    let mut cells = [Cell { start: 0, end: 0 }; FIELDS];
     let mut next = at;
-    for i in 0..6 {
+    for i in 0..FIELDS {
         let Found::Cell {
             start,
             end,

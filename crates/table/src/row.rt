@@ -20,10 +20,15 @@ use graph::shape::Actor;
 use graph::shape::Channel;
 use graph::shape::Mode;
 use graph::shape::Table;
+use terms::refusal::BAD_FIELD;
+use terms::refusal::BAD_RATES;
+use terms::refusal::ELSEWHERE;
+use terms::refusal::MISLISTED;
 use units::Tick;
 use units::limits;
 use units::limits::ACTORS;
 use units::limits::CHANNELS;
+use units::limits::FIELDS;
 use units::limits::MODES;
 use units::limits::PHASES;
 
@@ -121,7 +126,7 @@ fn bad() -> Line
     }
 }
 
-fn actor_line(s: &[u8], cells: [Cell; 6]) -> Line
+fn actor_line(s: &[u8], cells: [Cell; FIELDS]) -> Line
     requires { ⌜ Every (InText (now s)) cells ⌝ }
     ensures { λ r. ⌜ r ≡ lineOf (actorOf (map (bytesOf (now (s .entry))) cells)) ⌝ }
 {
@@ -156,7 +161,7 @@ fn actor_line(s: &[u8], cells: [Cell; 6]) -> Line
     }
 }
 
-fn channel_line(s: &[u8], cells: [Cell; 6]) -> Line
+fn channel_line(s: &[u8], cells: [Cell; FIELDS]) -> Line
     requires { ⌜ Every (InText (now s)) cells ⌝ }
     ensures { λ r. ⌜ r ≡ lineOf (channelOf (map (bytesOf (now (s .entry))) cells)) ⌝ }
 {
@@ -206,11 +211,11 @@ fn actor_refusal(active: u16, home: usize, line: Line) -> u64
 {
     let is = line.is;
     if bits::has(active, line.actor) {
-        return 3;
+        return MISLISTED;
     }
     if home != 0 {
         if home != is.processor {
-            return 4;
+            return ELSEWHERE;
         }
     }
     0
@@ -242,21 +247,21 @@ fn channel_refusal(active: u16, count: usize, actors: [Actor; ACTORS], line: Lin
     let from = line.actor;
     let to = line.to;
     if !bits::has(active, from) {
-        return 3;
+        return MISLISTED;
     }
     if !bits::has(active, to) {
-        return 3;
+        return MISLISTED;
     }
     if CHANNELS <= count {
-        return 3;
+        return MISLISTED;
     }
     let giver = actors[from];
     let taker = actors[to];
     if !suits(line.production, giver.phases) {
-        return 5;
+        return BAD_RATES;
     }
     if !suits(line.consumption, taker.phases) {
-        return 5;
+        return BAD_RATES;
     }
     0
 }
@@ -276,7 +281,7 @@ pub(crate) fn refusal(
     match kind {
         Kind::Actor => actor_refusal(active, home, line),
         Kind::Channel => channel_refusal(active, count, actors, line),
-        Kind::Bad => 2,
+        Kind::Bad => BAD_FIELD,
     }
 }
 

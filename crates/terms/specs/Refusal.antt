@@ -1,9 +1,75 @@
--- What is printed of a refusal, case by case.
+-- The numbers of the refusals, and what is printed of one, case by case.
 use Rattle.terms.specs.declared.refusal.Place.{Place}
 use Rattle.terms.specs.declared.refusal.Place.the-variants.{Nowhere, Row, Mode, Actor, Processor}
 use Rattle.terms.specs.declared.refusal.Refusal.{Refusal}
 use Rattle.terms.specs.declared.refusal.Printed.{Printed}
 use Prim.Native.Nat.{ℕ}
+
+-- The numbers of the refusals.
+
+-- the text is empty or too long, or a record is not RFC 4180 or has not the fields of a row
+abbrev pub UNREADABLE : ℕ
+UNREADABLE = 1
+
+-- the first field is unknown, or a number is badly written or out of its range
+abbrev pub BAD-FIELD : ℕ
+BAD-FIELD = 2
+
+-- an actor is listed twice in a mode, an end of a channel is not yet listed in it, or it has a channel too many
+abbrev pub MISLISTED : ℕ
+MISLISTED = 3
+
+-- an actor is on another processor than in an earlier row
+abbrev pub ELSEWHERE : ℕ
+ELSEWHERE = 4
+
+-- a list of rates is not as long as its actor has phases, or all of it is 0
+abbrev pub BAD-RATES : ℕ
+BAD-RATES = 5
+
+-- the channels of a mode form a cycle
+abbrev pub CYCLE : ℕ
+CYCLE = 6
+
+-- a mode has not exactly one actor without incoming channels, and one without outgoing ones
+abbrev pub NO-ENDS : ℕ
+NO-ENDS = 7
+
+-- a mode has no balance within range
+abbrev pub NO-BALANCE : ℕ
+NO-BALANCE = 8
+
+-- the load of a processor is above its limit
+abbrev pub OVERLOAD : ℕ
+OVERLOAD = 9
+
+-- an actor starts later than the sink
+abbrev pub LATE : ℕ
+LATE = 10
+
+-- a mode is not in the plan
+abbrev pub NO-MODE : ℕ
+NO-MODE = 11
+
+-- the mode that is asked for is the one now running
+abbrev pub SAME-MODE : ℕ
+SAME-MODE = 12
+
+-- the clock is past its limit
+abbrev pub PAST-CLOCK : ℕ
+PAST-CLOCK = 13
+
+-- the current change has not ended
+abbrev pub UNENDED : ℕ
+UNENDED = 14
+
+-- a buffer has not the one length, or is not what some accepted table leaves
+abbrev pub NO-PLAN : ℕ
+NO-PLAN = 15
+
+-- the machine's mode is not in the plan, or its starting tick is after the end of its change
+abbrev pub NO-MACHINE : ℕ
+NO-MACHINE = 16
 
 -- a line of five numbers
 abbrev pub lineOf : ℕ → ℕ → ℕ → ℕ → ℕ → Printed

@@ -2,7 +2,6 @@
 use mathlib.Core.Path.{_≡_, subst, subst₂}
 use mathlib.Core.List.{List}
 use Prim.Native.Nat.{ℕ, _+_, _*_, _/_, _%_, _<_}
-use native.Mathlib.Numerals.{add-one}
 use native.Mathlib.Omega.{arith}
 use native.Mathlib.Decide.{ℕ-discrete}
 use lib.ListN.{getD}
@@ -19,7 +18,7 @@ use Rattle.whole.specs.declared.Part.{Part}
 use Rattle.whole.specs.declared.Whole.{Whole}
 use Rattle.whole.specs.declared.Answer.{Answer}
 use Rattle.whole.specs.declared.Answer.the-variants.{Planned as IsPlanned, Refused as IsRefused}
-use Rattle.whole.specs.Whole.{noPart, changeAt, Listed, ModeRefused, IsPart, runningOf, IsChange, Planned}
+use Rattle.whole.specs.Whole.{noPart, changeAt, Listed, IsPart, runningOf, IsChange, Planned}
 use Rattle.whole.specs.Steps.{Comes, AnyComes, AllCome, noRunning, runningAt, runningsOf, Between, FoundParts, FoundChanges}
 use Rattle.whole.proofs.Running.{listed-some, listed-none}
 
@@ -46,7 +45,7 @@ module _ (t : Table) (proper : ProperTable t) (k : ℕ) (l : k < MODES) where
         k,
         listed-some t k proper l some,
         (λ i h listed. (getD ps i noPart, made .each i h .listed listed)),
-        subst (λ (n : ℕ). ModeRefused (modeAt t k) n r) (add-one k) refused,
+        refused,
       )
 
 -- the parts of all modes, and the changes between them as they run

@@ -12,6 +12,7 @@ use Rattle.numbers.specs.Filled.{filled-none, filled-set}
 use Rattle.units.specs.Limits.{MODES, LOAD-LIMIT}
 use Rattle.units.specs.Ticks.{greaterTick}
 use Rattle.terms.specs.declared.refusal.Refusal.{Refusal}
+use Rattle.terms.specs.Place.{numberOf}
 use Rattle.graph.specs.declared.shape.Mode.{Mode}
 use Rattle.graph.specs.declared.shape.Table.{Table}
 use Rattle.graph.specs.declared.Verdict.{Verdict}
@@ -91,13 +92,13 @@ module _ (t : Table) (proper : ProperTable t) where
   -- the modes below k have their parts, or the lowest that is refused refuses the table
   parts-found : (k : ℕ) → k ≤ MODES → ((ps : List Part) × FoundParts t ps k) ⊎ ((x : Outcome) × Planning t x)
   parts-found zero h = inl (_, filled-none MODES (IsPart t) emptyPart noPart)
-  parts-found (suc k) h = go (parts-found k (omega arith)) (listed-or-not t k h) (mode-decided (modeAt t k) (suc k) (proper .mode k h))
+  parts-found (suc k) h = go (parts-found k (omega arith)) (listed-or-not t k h) (mode-decided (modeAt t k) (numberOf k) (proper .mode k h))
     where
       more : (ps : List Part) (p : Part) → FoundParts t ps k → IsPart t k p → FoundParts t (set ps k p) (suc k)
       more ps p made is = subst (FoundParts t (set ps k p)) (add-one k) (filled-set MODES (IsPart t) emptyPart noPart ps k p h is made)
 
       go : ((ps : List Part) × FoundParts t ps k) ⊎ ((x : Outcome) × Planning t x) → Dec (Listed t k)
-          → ((p : Part) × ModePlanned (modeAt t k) p) ⊎ ((r : Refusal) × ModeRefused (modeAt t k) (suc k) r)
+          → ((p : Part) × ModePlanned (modeAt t k) p) ⊎ ((r : Refusal) × ModeRefused (modeAt t k) (numberOf k) r)
           → ((ps : List Part) × FoundParts t ps (suc k)) ⊎ ((x : Outcome) × Planning t x)
       go (inr x) l d = inr x
       go (inl (ps, made)) (no n) d = inl (set ps k emptyPart, more ps emptyPart made (record { listed = λ l. absurd (n l); unlisted = λ l. refl }))

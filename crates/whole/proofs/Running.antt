@@ -3,7 +3,7 @@ use mathlib.Core.Path.{_≡_, refl, sym, ap, subst, _∙_}
 use mathlib.Core.Bool.{Bool, true, false, cond, _&&_}
 use mathlib.Core.List.{List}
 use mathlib.Core.Logic.{⊎-elim}
-use Prim.Native.Nat.{ℕ, _≤_, _<_, zero-le}
+use Prim.Native.Nat.{ℕ, _≤_, _<_, zero-le, _-_}
 use native.Mathlib.Nat.{lt-of-not-le, lt-of-lt-of-le, mul-comm}
 use native.Mathlib.Omega.{arith}
 use native.Mathlib.Decide.{decLe}
@@ -21,6 +21,7 @@ use Rattle.units.specs.declared.Firing.{Firing}
 use Rattle.units.specs.Ticks.{tick}
 use Rattle.units.specs.Firings.{firing}
 use Rattle.period.specs.Period.{periodOf, partOf}
+use Rattle.terms.specs.Place.{numberOf}
 use Rattle.graph.specs.declared.shape.Mode.{Mode}
 use Rattle.graph.specs.declared.shape.Table.{Table}
 use Rattle.graph.specs.Shape.{modeAt, actorAt, Active, noActor}
@@ -83,7 +84,7 @@ module _ (m : Mode) (proper : ProperMode m) where
       where
         go : Dec (AtMost (loadOf m x (p .iteration) q) LOAD-LIMIT) → AtMost (loadOf m x (p .iteration) q) LOAD-LIMIT
         go (yes a) = a
-        go (no n) = absurd (bears q (record { some = l; processor = h; above = n }))
+        go (no n) = let e : numberOf (q - 1) ≡ q = omega arith in absurd (bears (q - 1) (record { processor = omega arith; above = rw e n }))
 
   pub mode-ready : (p : Part) → ModePlanned m p → Ready (runningOf m p)
   mode-ready p w =

@@ -1,7 +1,7 @@
 -- What the verdict of a judgement and the timing of a timetable say. Assumes nothing.
 use mathlib.Core.Path.{_≡_, sym, ap, subst, _∙_}
 use Prim.Native.Nat.{ℕ, _<_}
-use Rattle.units.specs.Limits.{ACTORS}
+use Rattle.units.specs.Limits.{ACTORS, PROCESSORS}
 use Rattle.units.specs.declared.Tick.{Tick}
 use Rattle.graph.specs.declared.shape.Mode.{Mode}
 use Rattle.graph.specs.declared.Verdict.{Verdict}
@@ -32,6 +32,13 @@ abbrev lateOf : Timing → ℕ
 lateOf (IsLate a) = a
 lateOf OnTime = 0
 
+abbrev Processor : Verdict → Type 0
+Processor IsCyclic = Unit {0}
+Processor HasNoEnds = Unit {0}
+Processor IsUnbalanced = Unit {0}
+Processor (IsOverloaded p) = p < PROCESSORS
+Processor IsSound = Unit {0}
+
 module _ {m : Mode} where
   -- a refused mode has no numbers
   pub judged-refused : {j : Judgement} (v : Verdict) → Refuses v → Judged m j → j .verdict ≡ v → Judged m (refusedBy v)
@@ -40,6 +47,14 @@ module _ {m : Mode} where
   judged-refused v r (unbalanced n d u) e = subst (λ (v : Verdict). Judged m (refusedBy v)) e (unbalanced n d u)
   judged-refused v r (overloaded x n d s i w o) e = subst (λ (v : Verdict). Judged m (refusedBy v)) e (overloaded x n d s i w o)
   judged-refused v r (sound x n p f) e = absurd (subst Refuses (sym e ∙ p .verdict) r)
+
+  -- an overloaded processor is one of those that there are
+  pub judged-processor : {j : Judgement} {p : ℕ} → Judged m j → j .verdict ≡ IsOverloaded p → p < PROCESSORS
+  judged-processor (cyclic c) e = subst Processor e tt
+  judged-processor (no-ends n d) e = subst Processor e tt
+  judged-processor (unbalanced n d u) e = subst Processor e tt
+  judged-processor (overloaded x n d s i w o) e = subst Processor e (o .holds .processor)
+  judged-processor (sound x n p f) e = subst Processor (sym (p .verdict) ∙ e) tt
 
   -- one that is sound has them
   pub judged-sound : {j : Judgement} → Judged m j → j .verdict ≡ IsSound

@@ -2,7 +2,7 @@
 use mathlib.Core.Path.{_≡_, refl, sym, ap, ap₂, subst, subst₂, _∙_}
 use mathlib.Core.List.{List}
 use mathlib.Core.Logic.{⊎-elim}
-use Prim.Native.Nat.{ℕ, suc, _+_, _*_, _/_, _%_, _<_, zero-le}
+use Prim.Native.Nat.{ℕ, _+_, _*_, _/_, _%_, _<_, zero-le}
 use native.Mathlib.Omega.{arith}
 use native.Mathlib.Decide.{decLt, ℕ-discrete}
 use lib.ListN.{getD}
@@ -11,8 +11,10 @@ use Rattle.numbers.specs.Bits.{hasb, has-decides}
 use Rattle.numbers.specs.Decides.{decides-true, decides-false}
 use Rattle.numbers.specs.Lowest.{sought}
 use Rattle.units.specs.Limits.{MODES, ACTORS}
+use Rattle.terms.specs.Refusal.{CYCLE, NO-ENDS, NO-BALANCE, OVERLOAD, LATE}
 use Rattle.terms.specs.declared.refusal.Place.the-variants.{Nowhere, Mode as AtMode, Actor as AtActor, Processor as AtProcessor}
 use Rattle.terms.specs.declared.refusal.Refusal.{Refusal}
+use Rattle.terms.specs.Place.{numberOf}
 use Rattle.graph.specs.declared.shape.Mode.{Mode}
 use Rattle.graph.specs.declared.shape.Table.{Table}
 use Rattle.graph.specs.declared.Verdict.{Verdict}
@@ -35,11 +37,11 @@ use Rattle.whole.specs.Whole.{noPart, noTiming, emptyWhole, changeAt, Li
 
 -- the refusal of a mode with number n by its verdict and its timing
 abbrev refusalOf : ℕ → Verdict → Timing → Refusal
-refusalOf n Cyclic t = refusal 6 (AtMode n)
-refusalOf n Ends t = refusal 7 (AtMode n)
-refusalOf n Unbalanced t = refusal 8 (AtMode n)
-refusalOf n (Overloaded p) t = refusal 9 (AtProcessor n p)
-refusalOf n Sound (Late a) = refusal 10 (AtActor n (suc a))
+refusalOf n Cyclic t = refusal CYCLE (AtMode n)
+refusalOf n Ends t = refusal NO-ENDS (AtMode n)
+refusalOf n Unbalanced t = refusal NO-BALANCE (AtMode n)
+refusalOf n (Overloaded p) t = refusal OVERLOAD (AtProcessor n (numberOf p))
+refusalOf n Sound (Late a) = refusal LATE (AtActor n (numberOf a))
 refusalOf n Sound OnTime = refusal 0 Nowhere
 
 -- one of the two refuses
@@ -179,7 +181,7 @@ module _ (t : Table) where
       go (no n) (yes h) = absurd (planned-refused (f l h b .1) q)
       go (no n) (no d) =
           let e : l ≡ k = omega (arith, n, d) in
-          ap (λ (r : Refusal). record { answer = IsRefused r; whole = emptyWhole }) (refusal-unique p (subst (λ (k : ℕ). ModeRefused (modeAt t k) (suc k) s) e q))
+          ap (λ (r : Refusal). record { answer = IsRefused r; whole = emptyWhole }) (refusal-unique p (subst (λ (k : ℕ). ModeRefused (modeAt t k) (numberOf k) s) e q))
   planning-unique (refused {k} a f p) (planned w) = absurd (planned-refused (w .part k (a .0) .listed a) p)
   planning-unique (planned w) (refused {k} b g q) = absurd (planned-refused (w .part k (b .0) .listed b) q)
   planning-unique (planned {w} a) (planned {w = v} b) = λ i. record { answer = IsPlanned; whole = plan-unique w v a b i }

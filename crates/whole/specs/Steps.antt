@@ -1,12 +1,13 @@
 -- Model of the code: lists whose elements are found one by one, the parts of a table, and the modes as they run.
 use mathlib.Core.Path.{_≡_}
 use mathlib.Core.List.{List, []}
-use Prim.Native.Nat.{ℕ, suc, _*_, _/_, _%_, _<_}
+use Prim.Native.Nat.{ℕ, _*_, _/_, _%_, _<_}
 use lib.ListN.{length, getD}
 use Rattle.numbers.specs.Filled.{Filled}
 use Rattle.numbers.specs.Tab.{tab}
 use Rattle.units.specs.Ticks.{tick}
 use Rattle.units.specs.Limits.{MODES}
+use Rattle.terms.specs.Place.{numberOf}
 use Rattle.graph.specs.declared.shape.Mode.{Mode}
 use Rattle.graph.specs.declared.shape.Table.{Table}
 use Rattle.graph.specs.Shape.{modeAt, emptyMode}
@@ -36,7 +37,7 @@ AnyComes m n (IsRefused r) p = (m .active ≡ 0 → ⊥) × ModeRefused m n r
 abbrev pub AllCome : Table → Answer → List Part → Type 0
 AllCome t IsPlanned ps = FoundParts t ps MODES
 AllCome t (IsRefused r) ps =
-    (k : ℕ) × Listed t k × ((l : ℕ) → l < k → Listed t l → (p : Part) × ModePlanned (modeAt t l) p) × ModeRefused (modeAt t k) (suc k) r
+    (k : ℕ) × Listed t k × ((l : ℕ) → l < k → Listed t l → (p : Part) × ModePlanned (modeAt t l) p) × ModeRefused (modeAt t k) (numberOf k) r
 
 -- the modes as they run
 abbrev pub noRunning : Running

@@ -1,15 +1,17 @@
 -- The plan of a table: what is planned of each mode and of each change, or the refusal of the lowest mode that is refused.
 use mathlib.Core.Path.{_≡_}
 use mathlib.Core.List.{[]}
-use Prim.Native.Nat.{ℕ, suc, _+_, _*_, _<_}
+use Prim.Native.Nat.{ℕ, _+_, _*_, _<_}
 use lib.ListN.{length, getD, replicate}
 use Rattle.units.specs.Ticks.{tick}
 use Rattle.units.specs.Tokens.{token}
 use Rattle.units.specs.Limits.{MODES, ACTORS, CHANNELS}
 use Rattle.units.specs.Firings.{firing}
+use Rattle.terms.specs.Refusal.{CYCLE, NO-ENDS, NO-BALANCE, OVERLOAD, LATE}
 use Rattle.terms.specs.declared.refusal.Place.{Place}
 use Rattle.terms.specs.declared.refusal.Place.the-variants.{Mode as AtMode, Actor as AtActor, Processor as AtProcessor}
 use Rattle.terms.specs.declared.refusal.Refusal.{Refusal}
+use Rattle.terms.specs.Place.{numberOf}
 use Rattle.graph.specs.declared.shape.Mode.{Mode}
 use Rattle.graph.specs.declared.shape.Table.{Table}
 use Rattle.graph.specs.declared.Verdict.the-variants.{Cyclic, Ends, Unbalanced, Overloaded, Sound}
@@ -80,12 +82,12 @@ refusal n p = record { number = n; place = p }
 
 -- The mode with number n is refused: by the first of 6 to 10 that applies, with the place that it names.
 pub data ModeRefused (m : Mode) (n : ℕ) : Refusal → Type 0 where
-  by-6 : Judged m (refusedBy Cyclic) → ModeRefused m n (refusal 6 (AtMode n))
-  by-7 : Judged m (refusedBy Ends) → ModeRefused m n (refusal 7 (AtMode n))
-  by-8 : Judged m (refusedBy Unbalanced) → ModeRefused m n (refusal 8 (AtMode n))
-  by-9 : {p : ℕ} → Judged m (refusedBy (Overloaded p)) → ModeRefused m n (refusal 9 (AtProcessor n p))
+  by-6 : Judged m (refusedBy Cyclic) → ModeRefused m n (refusal CYCLE (AtMode n))
+  by-7 : Judged m (refusedBy Ends) → ModeRefused m n (refusal NO-ENDS (AtMode n))
+  by-8 : Judged m (refusedBy Unbalanced) → ModeRefused m n (refusal NO-BALANCE (AtMode n))
+  by-9 : {p : ℕ} → Judged m (refusedBy (Overloaded p)) → ModeRefused m n (refusal OVERLOAD (AtProcessor n (numberOf p)))
   by-10 : {a : ℕ} {j : Judgement} → Judged m j → j .verdict ≡ Sound → Scheduled m j (lateBy a)
-      → ModeRefused m n (refusal 10 (AtActor n (suc a)))
+      → ModeRefused m n (refusal LATE (AtActor n (numberOf a)))
 
 -- the numbers of a mode that is judged and scheduled
 abbrev pub partOf : Judgement → Timetable → Part
@@ -140,5 +142,5 @@ pub record Planned (t : Table) (w : Whole) : Type 0 where
 -- The lowest mode that is refused, of those that are listed, refuses the table, and there is no plan; or there is one.
 pub data Planning (t : Table) : Outcome → Type 0 where
   refused : {k : ℕ} {r : Refusal} → Listed t k → ((l : ℕ) → l < k → Listed t l → (p : Part) × ModePlanned (modeAt t l) p)
-      → ModeRefused (modeAt t k) (suc k) r → Planning t (record { answer = IsRefused r; whole = emptyWhole })
+      → ModeRefused (modeAt t k) (numberOf k) r → Planning t (record { answer = IsRefused r; whole = emptyWhole })
   planned : {w : Whole} → Planned t w → Planning t (record { answer = IsPlanned; whole = w })

@@ -97,12 +97,12 @@ fn between(old: Running, new: Running, k: usize, l: usize) -> Timing
 }
 
 // The changes between all pairs of modes.
-pub(crate) fn changes_of(runnings: [Running; MODES]) -> [Timing; 64]
+pub(crate) fn changes_of(runnings: [Running; MODES]) -> [Timing; MODES * MODES]
     requires { ⌜ AllReady runnings ⌝ }
     ensures { λ r. ⌜ FoundChanges runnings r (MODES * MODES) ⌝ }
 {
-    let mut changes = [none(); 64];
-    for n in 0..64 {
+    let mut changes = [none(); MODES * MODES];
+    for n in 0..MODES * MODES {
         let k = n / MODES;
         let l = n % MODES;
         changes[n] = between(runnings[k], runnings[l], k, l);

@@ -32,7 +32,7 @@ pub struct Part {
 // What is planned of a table. The change from mode m to mode n stands at MODES times m plus n; all 0 where there is none.
 pub struct Whole {
     pub parts: [Part; MODES],
-    pub changes: [Timing; 64],
+    pub changes: [Timing; MODES * MODES],
 }
 
 // Whether a table has a plan, or which refusal it gets.
@@ -52,7 +52,7 @@ pub fn empty() -> Whole
     ensures { λ r. ⌜ r ≡ emptyWhole ⌝ }
 {
     let parts = [modes::nothing(); MODES];
-    let changes = [changes::none(); 64];
+    let changes = [changes::none(); MODES * MODES];
     Whole { parts, changes }
 }
 

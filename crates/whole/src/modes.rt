@@ -9,6 +9,12 @@ use graph::shape::Table;
 use schedule::Timetable;
 use schedule::Timing;
 use schedule::schedule;
+use terms::place::number_of;
+use terms::refusal::CYCLE;
+use terms::refusal::LATE;
+use terms::refusal::NO_BALANCE;
+use terms::refusal::NO_ENDS;
+use terms::refusal::OVERLOAD;
 use terms::refusal::Place;
 use terms::refusal::Refusal;
 use units::Firing;
@@ -98,10 +104,10 @@ fn timed(mode: Mode, number: u64, judged: Judgement) -> Piece
     let timing = times.timing;
     match timing {
         Timing::Late(actor) => refused(
-            10,
+            LATE,
             Place::Actor {
                 mode: number,
-                actor: actor as u64 + 1,
+                actor: number_of(actor),
             },
         ),
         Timing::OnTime => Piece {
@@ -119,14 +125,14 @@ fn piece_of(mode: Mode, number: u64) -> Piece
     let judged = judge(mode);
     let verdict = judged.verdict;
     match verdict {
-        Verdict::Cyclic => refused(6, Place::Mode(number)),
-        Verdict::Ends => refused(7, Place::Mode(number)),
-        Verdict::Unbalanced => refused(8, Place::Mode(number)),
+        Verdict::Cyclic => refused(CYCLE, Place::Mode(number)),
+        Verdict::Ends => refused(NO_ENDS, Place::Mode(number)),
+        Verdict::Unbalanced => refused(NO_BALANCE, Place::Mode(number)),
         Verdict::Overloaded(processor) => refused(
-            9,
+            OVERLOAD,
             Place::Processor {
                 mode: number,
-                processor: processor as u64,
+                processor: number_of(processor),
             },
         ),
         Verdict::Sound => timed(mode, number, judged),
@@ -154,7 +160,7 @@ pub(crate) fn parts_of(table: Table) -> Pieces
 {
     let mut parts = [nothing(); MODES];
     for k in 0..MODES {
-        let piece = any_of(table.modes[k], k as u64 + 1);
+        let piece = any_of(table.modes[k], number_of(k));
         let answer = piece.answer;
         if let Answer::Refused(refusal) = answer {
             return Pieces {

@@ -9,6 +9,7 @@ use Rattle.numbers.specs.Tab.{length-tab}
 use Rattle.units.specs.declared.Tick.{Tick}
 use Rattle.units.specs.declared.Firing.{Firing}
 use Rattle.units.specs.Limits.{PROCESSORS}
+use Rattle.units.specs.Limits.{PROCESSORS}
 use Rattle.period.specs.declared.Length.the-variants.{Is}
 use Rattle.graph.specs.declared.shape.Mode.{Mode}
 use Rattle.graph.specs.declared.Verdict.the-variants.{Overloaded, Sound}
@@ -22,11 +23,11 @@ use Rattle.graph.proofs.timed.Tie as tie
 
 -- by the processor that is found
 module _ (m : Mode) (ds : List ℕ) (s t : ℕ) (x : List ℕ) (qs : List Firing) (ws : List Tick) (h : Tick) (o : ℕ) (e : o ≡ overloadedOf (sharesIn (m .actors) ws) h) where
-  over : (o ≡ 0 → ⊥) → refusedBy (Overloaded o) ≡ loaded m ds s t x qs ws (Is h)
-  over n = rw (← e, ne-eqb o 0 n)
+  over : (o ≡ PROCESSORS → ⊥) → refusedBy (Overloaded o) ≡ loaded m ds s t x qs ws (Is h)
+  over n = rw (← e, ne-eqb o PROCESSORS n)
 
-  fine : o ≡ 0 → soundBy m ds s t x qs ws h ≡ loaded m ds s t x qs ws (Is h)
-  fine z = rw (← e, eq-eqb o 0 z)
+  fine : o ≡ PROCESSORS → soundBy m ds s t x qs ws h ≡ loaded m ds s t x qs ws (Is h)
+  fine z = rw (← e, eq-eqb o PROCESSORS z)
 
 firings-of-requires : tie.Need-firings-of-requires
 firings-of-requires c κs = (actors-fitting _ (c .before .pre .0), c .before .pre .1 .small)

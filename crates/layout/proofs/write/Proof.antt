@@ -1,9 +1,11 @@
 -- layout::write meets its contract. Assumes nothing.
 use borrow.Author.Needs.{needs}
 use mathlib.Core.Path.{refl}
+use Prim.Native.Nat.{_*_}
 use native.Mathlib.Omega.{arith}
 use denote.Ref.{now}
-use Rattle.layout.specs.Words.{wordsOf}
+use Rattle.units.specs.Limits.{MODES}
+use Rattle.layout.specs.Words.{wordsOf, MODE-WORDS, CHANGE-WORDS, CHANGES}
 use Rattle.layout.specs.Laws.{length-modes, length-changes, length-words}
 use Rattle.layout.proofs.Laid.{laid-none, laid-put, laid-all}
 use Rattle.layout.proofs.write.Statement.{statement}
@@ -17,8 +19,8 @@ returns c =
     let w = s .args .whole in
     let modes = c .before .before .before .before .before .before .put-modes .ensures in
     laid-all
-    (laid-put 5928 192 (c .before .before .put-changes .ensures)
-    (laid-put 0 5928 modes (laid-none {w = now (s .args .words)} (s .pre)) refl (length-modes t w) (omega arith))
+    (laid-put (MODE-WORDS * MODES) (CHANGE-WORDS * CHANGES) (c .before .before .put-changes .ensures)
+    (laid-put 0 (MODE-WORDS * MODES) modes (laid-none {w = now (s .args .words)} (s .pre)) refl (length-modes t w) (omega arith))
     (length-modes t w)
     (length-changes w)
     (omega arith))

@@ -52,6 +52,12 @@ unlisted c =
     subst (λ (x : Refusal). Begins (now (a .words)) (a .mode) (Refused x)) (sym (c .refusal2 .ensures))
     (Begins.not-listed (leaves e) (meant j) (λ h. subst T (sym (d .listed .ensures) ∙ not-true (d .listed .result) (c .before .if3 .taken)) h))
 
+begun : tie.Need-returns-3
+begun c =
+    let p = c .before .before in
+    let e = p .before in
+    rw (p .place-of .ensures) (begins (leaves (e .before .before .before .before .before)) (meant (e .before .before)) (is-listed e))
+
 pub start-spec : {M : Type 1} → statement M
 start-spec =
     tie.close
@@ -63,7 +69,7 @@ start-spec =
     (λ c κs. search needs)
     (λ c κs. search needs)
     unlisted
-    (λ c. within (c .before) .0)
-    (λ c. let h = within (c .before) in omega (arith, h))
-    (λ c. let h = within (c .before) in omega (arith, h))
-    (λ c. let e = c .before .before .before in begins (leaves (e .before .before .before .before .before)) (meant (e .before .before)) (is-listed e)))
+    (λ c κs. within c .0)
+    (λ c. let h = within (c .before) in omega (arith, h, c .place-of .ensures))
+    (λ c. let h = within (c .before) in omega (arith, h, c .place-of .ensures))
+    begun)

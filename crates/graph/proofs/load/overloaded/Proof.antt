@@ -1,7 +1,7 @@
--- graph::load::overloaded meets its contract. The invariant: the lowest processor is the lowest from p + 1 on. Assumes nothing.
+-- graph::load::overloaded meets its contract. The invariant: the lowest processor is the lowest from p on. Assumes nothing.
 use borrow.Author.Needs.{needs}
 use mathlib.Core.Path.{_≡_, refl, sym, subst, _∙_}
-use Prim.Native.Nat.{suc, _+_, _-_, _≤_, _<_}
+use Prim.Native.Nat.{_-_, _≤_, _<_}
 use native.Mathlib.Omega.{arith}
 use Rattle.numbers.specs.Lowest.{lowestOr}
 use Rattle.numbers.specs.declared.fraction.Fraction.{Fraction}
@@ -12,7 +12,7 @@ use Rattle.graph.proofs.load.overloaded.Statement.{statement}
 use Rattle.graph.proofs.load.overloaded.Tie as tie
 
 abbrev Inv-loop : tie.InvT-loop
-Inv-loop iteration shares p₀ p = (p ≤ PROCESSORS) × (overloadedOf shares iteration ≡ lowestOr (overb shares iteration) 0 (suc PROCESSORS - (p + 1)) (p + 1))
+Inv-loop iteration shares p₀ p = (p ≤ PROCESSORS) × (overloadedOf shares iteration ≡ lowestOr (overb shares iteration) PROCESSORS (PROCESSORS - p) p)
 
 abbrev μ-loop : tie.MeasureT-loop
 μ-loop iteration shares p₀ p = PROCESSORS - p
@@ -40,7 +40,7 @@ loop-again c =
 
 returns-2 : tie.Need-returns-2 Inv-loop μ-loop
 unfolding lowestOr
-returns-2 c = let z : suc PROCESSORS - (c .before .loop .p + 1) ≡ 0 = omega arith in sym (c .before .loop .inv .1 ∙ rw z)
+returns-2 c = let z : PROCESSORS - c .before .loop .p ≡ 0 = omega arith in sym (c .before .loop .inv .1 ∙ rw z)
 
 pub overloaded-spec : {M : Type 1} → statement M
 overloaded-spec =
@@ -53,7 +53,6 @@ overloaded-spec =
     (λ c. search needs)
     (λ c κs. search needs)
     at-most-requires
-    (λ c. search needs)
     returns
     (λ c. omega arith)
     (λ c. omega arith)

@@ -1,28 +1,25 @@
 -- graph::load::shares_of meets its contract. The invariant: the shares of the processors below p are set. Assumes nothing.
 use borrow.Author.Needs.{needs}
-use mathlib.Core.Path.{ap, _∙_}
-use Prim.Native.Nat.{ℕ, suc, _-_}
-use native.Mathlib.Numerals.{add-one}
+use Prim.Native.Nat.{_-_}
 use native.Mathlib.Omega.{arith}
 use Rattle.numbers.specs.Filled.{FilledBy, filled-none, filled-set, filled-all}
 use Rattle.units.specs.Ticks.{tick}
 use Rattle.units.specs.Limits.{ACTORS, PROCESSORS}
+use Rattle.terms.specs.Place.{numberOf}
 use Rattle.graph.specs.Lengths.{shareFrom}
 use Rattle.graph.proofs.load.shares_of.Statement.{statement}
 use Rattle.graph.proofs.load.shares_of.Tie as tie
 
 abbrev Inv-loop : tie.InvT-loop
-Inv-loop actors works shares₀ p₀ shares p = FilledBy PROCESSORS (λ k. shareFrom actors works (suc k) ACTORS) (tick 0) shares p
+Inv-loop actors works shares₀ p₀ shares p = FilledBy PROCESSORS (λ k. shareFrom actors works (numberOf k) ACTORS) (tick 0) shares p
 
 abbrev μ-loop : tie.MeasureT-loop
 μ-loop actors works shares₀ p₀ shares p = PROCESSORS - p
 
 loop-again : tie.Need-loop-again Inv-loop μ-loop
 loop-again c =
-    let l = c .before .before .loop in
-    let s = c .before .before .before .args in
-    filled-set PROCESSORS _ (tick 0) (tick 0) _ (l .p) _ (omega arith)
-    (c .share-of .ensures ∙ ap (λ (n : ℕ). shareFrom (s .actors) (s .works) n ACTORS) (add-one (l .p))) (l .inv)
+    let l = c .before .before .before .loop in
+    filled-set PROCESSORS _ (tick 0) (tick 0) _ (l .p) _ (omega arith) (rw (c .before .number-of .ensures) at (c .share-of .ensures)) (l .inv)
 
 pub shares-of-spec : {M : Type 1} → statement M
 shares-of-spec =
@@ -31,7 +28,7 @@ shares-of-spec =
     Inv-loop
     μ-loop
     (λ c. filled-none PROCESSORS _ (tick 0) (tick 0))
-    (λ c. search needs)
+    (λ c κs. search needs)
     (λ c κs. search needs)
     (λ c. search needs)
     (λ c. search needs)

@@ -2,7 +2,7 @@
 use borrow.Author.Needs.{needs}
 use mathlib.Core.Path.{_≡_, refl}
 use mathlib.Core.List.{List, [], _∷_, _++_}
-use Prim.Native.Nat.{ℕ}
+use Prim.Native.Nat.{ℕ, _+_}
 use native.Mathlib.Omega.{arith}
 use denote.Ref.{now}
 use lib.ListN.{length, getD, set, length-set}
@@ -14,7 +14,7 @@ use Rattle.layout.proofs.store.put_channel.Statement.{statement}
 use Rattle.layout.proofs.store.put_channel.Tie as tie
 
 filled : (w : List ℕ) (f g : ℕ → ℕ) (a b s t : ℕ) → length w ≡ CHANNEL-WORDS
-    → set (set (set (set (putMid 10 PHASES (putMid 2 PHASES w (tab PHASES f)) (tab PHASES g)) 0 a) 1 b) 18 s) 19 t
+    → set (set (set (set (putMid (2 + PHASES) PHASES (putMid 2 PHASES w (tab PHASES f)) (tab PHASES g)) 0 a) 1 b) (2 + PHASES + PHASES) s) (3 + PHASES + PHASES) t
     ≡ a ∷ b ∷ (tab PHASES f ++ (tab PHASES g ++ (s ∷ t ∷ [])))
 unfolding tab
 filled w f g a b s t h = rw (is-tab CHANNEL-WORDS (λ i. getD w i 0) w 0 h (λ i l. refl)) refl

@@ -1,13 +1,13 @@
 -- layout::store::put_mode meets its contract. Assumes nothing.
 use borrow.Author.Needs.{needs}
 use mathlib.Core.Path.{refl, ap, _∙_}
-use Prim.Native.Nat.{ℕ, _+_}
+use Prim.Native.Nat.{ℕ, _+_, _*_}
 use native.Mathlib.Omega.{arith}
 use denote.Ref.{now}
 use lib.ListN.{length-append}
-use Rattle.units.specs.Limits.{ACTORS}
+use Rattle.units.specs.Limits.{ACTORS, CHANNELS}
 use Rattle.layout.specs.Joined.{joined}
-use Rattle.layout.specs.Words.{HEAD-WORDS, headWords, actorWordsAt, modeWords}
+use Rattle.layout.specs.Words.{HEAD-WORDS, headWords, actorWordsAt, modeWords, ACTOR-WORDS, CHANNEL-WORDS}
 use Rattle.layout.specs.Laws.{length-actors, length-channels, length-mode}
 use Rattle.layout.proofs.Laid.{laid-none, laid-put, laid-all}
 use Rattle.layout.proofs.store.put_mode.Statement.{statement}
@@ -22,8 +22,8 @@ returns c =
     let actors = c .before .before .before .before .before .before .put-actors .ensures in
     let head = c .before .before .before .before .before .before .before .before .before .before .put-head .ensures in
     laid-all
-    (laid-put 101 640 (c .before .before .put-channels .ensures)
-    (laid-put 5 96 actors (laid-put 0 5 head (laid-none {w = now (s .args .words)} (s .pre)) refl refl (omega arith)) refl (length-actors m p) (omega arith))
+    (laid-put (HEAD-WORDS + ACTOR-WORDS * ACTORS) (CHANNEL-WORDS * CHANNELS) (c .before .before .put-channels .ensures)
+    (laid-put HEAD-WORDS (ACTOR-WORDS * ACTORS) actors (laid-put 0 HEAD-WORDS head (laid-none {w = now (s .args .words)} (s .pre)) refl refl (omega arith)) refl (length-actors m p) (omega arith))
     (length-append (headWords m p) (joined ACTORS (actorWordsAt m p)) ∙ ap (λ (n : ℕ). HEAD-WORDS + n) (length-actors m p))
     (length-channels m p)
     (omega arith))

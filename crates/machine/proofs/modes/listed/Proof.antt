@@ -12,7 +12,7 @@ listed-spec =
     (tie.spec
     (λ c. sym (listed-zero (c .before .args .t1) (c .before .args .mode) (omega arith)))
     (λ c. sym (listed-above (c .before .before .args .t1) (c .before .before .args .mode) (omega arith)))
+    (λ c κs. search needs)
     (λ c. search needs)
     (λ c. search needs)
-    (λ c. search needs)
-    (λ c. sym (listed-within (c .before .before .before .before .args .t1) (c .before .before .before .before .args .mode) (omega arith) (omega arith))))
+    (λ c. let s = c .before .before .before .before .before .args in rw (c .before .before .place-of .ensures) (sym (listed-within (s .t1) (s .mode) (omega arith) (omega arith)))))

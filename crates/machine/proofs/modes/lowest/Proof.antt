@@ -21,14 +21,15 @@ abbrev μ-loop : tie.MeasureT-loop
 
 returns : tie.Need-returns Inv-loop μ-loop
 returns c =
-    let l = c .before .before .before .before .loop in
-    let t = c .before .before .before .before .before .args .t1 in
-    sym (lowest-is (isListed t) 0 MODES 1 (l .k + 1) (record {
+    let l = c .before .before .before .before .before .loop in
+    let t = c .before .before .before .before .before .before .args .t1 in
+    rw (c .number-of .ensures)
+    (sym (lowest-is (isListed t) 0 MODES 1 (l .k + 1) (record {
       from = omega arith;
       below = omega arith;
-      passes = listed-place t (l .k) (omega arith) ∙ ap not (ne-eqb (modeAt t (l .k) .active) 0 (c .if1 .taken));
+      passes = listed-place t (l .k) (omega arith) ∙ ap not (ne-eqb (modeAt t (l .k) .active) 0 (c .before .if1 .taken));
       first = λ n a b. l .inv .1 n a (omega arith);
-    }))
+    })))
 
 loop-again : tie.Need-loop-again Inv-loop μ-loop
 loop-again c =
@@ -54,7 +55,7 @@ lowest-spec =
     (λ c. (omega arith, λ n a b. absurd (omega arith)))
     (λ c. search needs)
     (λ c. search needs)
-    (λ c. search needs)
+    (λ c κs. search needs)
     returns
     (λ c. search needs)
     (λ c. omega arith)

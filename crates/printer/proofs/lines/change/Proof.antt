@@ -17,17 +17,17 @@ returns-3 c = rw (ne-eqb _ 0 (c .before .before .if1 .left), ne-eqb _ 0 (c .befo
 line-requires : tie.Need-line-requires
 line-requires c κs =
     let n = c .before .before in
-    let e = n .before .before .before in
-    rw (n .before .before .ticks .ensures, n .before .ticks2 .ensures, n .ticks3 .ensures)
+    let e = n .before .before .before .before .before in
+    rw (n .before .before .before .before .number-of .ensures, n .before .before .before .number-of2 .ensures, n .before .before .ticks .ensures, n .before .ticks2 .ensures, n .ticks3 .ensures)
     (rw (ne-eqb _ 0 (e .before .before .if1 .left), ne-eqb _ 0 (e .before .if2 .left), ne-eqb _ _ (e .if3 .left)) at (e .before .before .before .before .pre .0))
 
 returns-4 : tie.Need-returns-4
 returns-4 c =
     let l = c .before .before in
     let n = l .before .before .before in
-    let e = n .before .before .before in
+    let e = n .before .before .before .before .before in
     rw (ne-eqb _ 0 (e .before .before .if1 .left), ne-eqb _ 0 (e .before .if2 .left), ne-eqb _ _ (e .if3 .left))
-    (rw (n .before .before .ticks .ensures, n .before .ticks2 .ensures, n .ticks3 .ensures) at (l .line .ensures))
+    (rw (n .before .before .before .before .number-of .ensures, n .before .before .before .number-of2 .ensures, n .before .before .ticks .ensures, n .before .ticks2 .ensures, n .ticks3 .ensures) at (l .line .ensures))
 
 pub change-spec : {M : Type 1} → statement M
 change-spec =
@@ -36,8 +36,8 @@ change-spec =
     returns
     returns-2
     returns-3
-    (λ c. search needs)
-    (λ c. search needs)
+    (λ c κs. search needs)
+    (λ c κs. search needs)
     (λ c κs. search needs)
     (λ c κs. search needs)
     (λ c κs. search needs)

@@ -20,16 +20,16 @@ abbrev μ-loop : tie.MeasureT-loop
 returns : tie.Need-returns Inv-loop μ-loop
 returns c =
     let d = c .before .before .before in
-    let l = d .before .before in
+    let l = d .before .before .before in
     refusal-comes _ (l .before .before .before .pre) (l .before .loop .k) (l .loop-test .taken) _ (d .any-of .result .answer) _ (d .any-of .result .part) (l .before .loop .inv)
-    (d .any-of .ensures) (c .before .answer .given .1)
+    (rw (d .before .number-of .ensures) at (d .any-of .ensures)) (c .before .answer .given .1)
 
 loop-again : tie.Need-loop-again Inv-loop μ-loop
 loop-again c =
     let d = c .before .before .before in
-    let l = d .before .before in
+    let l = d .before .before .before in
     filled-set MODES _ emptyPart noPart _ (l .before .loop .k) _ (l .loop-test .taken)
-    (part-comes _ (l .before .before .before .pre) (l .before .loop .k) (l .loop-test .taken) (d .any-of .result .answer) _ (d .any-of .ensures) (c .before .enum-told .given .1))
+    (part-comes _ (l .before .before .before .pre) (l .before .loop .k) (l .loop-test .taken) (d .any-of .result .answer) _ (rw (d .before .number-of .ensures) at (d .any-of .ensures)) (c .before .enum-told .given .1))
     (l .before .loop .inv)
 
 returns-2 : tie.Need-returns-2 Inv-loop μ-loop
@@ -46,7 +46,7 @@ parts-of-spec =
     (λ c. omega arith)
     (λ c. omega arith)
     (λ c. omega arith)
-    (λ c κs. c .before .before .before .before .pre .mode _ (c .before .loop-test .taken))
+    (λ c κs. c .before .before .before .before .before .pre .mode _ (c .before .before .loop-test .taken))
     (λ c. search needs)
     returns
     (λ c. search needs)

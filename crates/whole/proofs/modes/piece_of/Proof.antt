@@ -1,11 +1,12 @@
 -- whole::modes::piece_of meets its contract. Assumes nothing.
 use borrow.Author.Needs.{needs}
 use mathlib.Core.Path.{sym, subst}
+use native.Mathlib.Omega.{arith}
 use Rattle.graph.specs.declared.Verdict.the-variants.{Cyclic, Ends, Unbalanced, Overloaded}
 use Rattle.whole.specs.declared.modes.Piece.{Piece}
 use Rattle.whole.specs.Whole.{by-6, by-7, by-8, by-9}
 use Rattle.whole.specs.Steps.{Comes}
-use Rattle.whole.proofs.Told.{judged-refused}
+use Rattle.whole.proofs.Told.{judged-refused, judged-processor}
 use Rattle.whole.proofs.modes.piece_of.Statement.{statement}
 use Rattle.whole.proofs.modes.piece_of.Tie as tie
 
@@ -30,9 +31,10 @@ returns-3 c =
 
 returns-4 : tie.Need-returns-4
 returns-4 c =
-    let d = c .before .before in
+    let d = c .before .before .before in
     let j = d .before .before in
-    subst (Come (j .before)) (sym (c .refused4 .ensures)) (by-9 (judged-refused (Overloaded (d .verdict .given .0 .0)) tt (j .judge .ensures) (d .verdict .given .1)))
+    subst (Come (j .before)) (sym (c .refused4 .ensures))
+    (rw (c .before .number-of .ensures) (by-9 (judged-refused (Overloaded (d .verdict .given .0 .0)) tt (j .judge .ensures) (d .verdict .given .1))))
 
 pub piece-of-spec : {M : Type 1} → statement M
 piece-of-spec =
@@ -46,6 +48,7 @@ piece-of-spec =
     (λ c. search needs)
     (λ c κs. search needs)
     (λ c. search needs)
+    (λ c κs. let d = c .before in omega (arith, judged-processor (d .before .before .judge .ensures) (d .verdict .given .1)))
     (λ c κs. search needs)
     (λ c. search needs)
     (λ c κs. let j = c .before .before in (j .before .pre, j .judge .ensures, c .enum-told4 .given .1))

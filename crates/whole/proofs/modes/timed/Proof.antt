@@ -1,7 +1,6 @@
 -- whole::modes::timed meets its contract. Assumes nothing.
 use borrow.Author.Needs.{needs}
 use mathlib.Core.Path.{sym, subst}
-use native.Mathlib.Numerals.{add-one}
 use native.Mathlib.Omega.{arith}
 use Rattle.whole.specs.declared.modes.Piece.{Piece}
 use Rattle.whole.specs.Whole.{by-10}
@@ -12,10 +11,10 @@ use Rattle.whole.proofs.modes.timed.Tie as tie
 
 returns : tie.Need-returns
 returns c =
-    let d = c .before .before in
+    let d = c .before .before .before in
     let s = d .before .before in
     subst (λ (r : Piece). Comes (s .before .args .mode) (s .before .args .number) (r .answer) (r .part)) (sym (c .refused .ensures))
-    (rw (add-one (d .timing .given .0 .0)) (by-10 (s .before .pre .1) (s .before .pre .2) (scheduled-late (s .schedule .ensures) (d .timing .given .1))))
+    (rw (c .before .number-of .ensures) (by-10 (s .before .pre .1) (s .before .pre .2) (scheduled-late (s .schedule .ensures) (d .timing .given .1))))
 
 returns-2 : tie.Need-returns-2
 returns-2 c =
@@ -36,7 +35,7 @@ timed-spec =
     (tie.spec
     (λ c κs. search needs)
     (λ c. search needs)
-    (λ c. let d = c .before in omega (arith, late-below (d .before .before .schedule .ensures) (d .timing .given .1)))
+    (λ c κs. let d = c .before in omega (arith, late-below (d .before .before .schedule .ensures) (d .timing .given .1)))
     (λ c κs. search needs)
     (λ c. search needs)
     (λ c κs. search needs)
