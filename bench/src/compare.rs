@@ -3,7 +3,7 @@
 
 use crate::damage::{damage_text, damage_words};
 use crate::generate::{any, largest, sixteen, table, Fault, KINDS};
-use crate::layout::WORDS;
+use crate::layout::{change_at, CHANGE, CHANGES, MODE, WORDS};
 use crate::planner::{Answer, Planner};
 use crate::print::PRINTED;
 use crate::random::Random;
@@ -52,8 +52,8 @@ pub struct Coverage {
 impl Coverage {
     /// Counts one more plan.
     fn add(&mut self, words: &[u64; WORDS]) {
-        let modes = || words[..741 * MODES].chunks_exact(741);
-        let changes = || words[741 * MODES..].chunks_exact(3);
+        let modes = || words[..CHANGES].chunks_exact(MODE);
+        let changes = || words[CHANGES..].chunks_exact(CHANGE);
         self.full_actors += u64::from(modes().any(|m| m[0] == u64::from(u16::MAX)));
         self.full_channels += u64::from(modes().any(|m| m[1] == CHANNELS as u64));
         self.full_modes += u64::from(modes().all(|m| m[0] != 0));
@@ -165,7 +165,7 @@ impl<A: Planner, B: Planner> Differ<A, B> {
     /// Keeps a plan for requests: most that are small and have several modes, a few of the others.
     fn keep(&mut self, text: &[u8], words: [u64; WORDS]) {
         let random = &mut self.random;
-        let modes = (0..MODES).filter(|mode| words[741 * mode] != 0).count();
+        let modes = (0..MODES).filter(|mode| words[MODE * mode] != 0).count();
         let seldom = modes == 1 || text.len() > 1200;
         if seldom && !random.one_in(30) {
             return;
@@ -223,16 +223,16 @@ impl<A: Planner, B: Planner> Differ<A, B> {
     /// it comes a tick after an iteration has begun.
     fn reach_worst(&mut self, at: usize) -> Result<(), Difference> {
         let words = self.kept[at].words.clone();
-        for from in (0..MODES).filter(|from| words[741 * from] != 0) {
-            for to in (0..MODES).filter(|&to| to != from && words[741 * to] != 0) {
+        for from in (0..MODES).filter(|from| words[MODE * from] != 0) {
+            for to in (0..MODES).filter(|&to| to != from && words[MODE * to] != 0) {
                 let mut machine = [0; 3];
                 self.start(at, &words[..], from as u64 + 1, &mut machine)?;
-                let iteration = words[741 * from + 2];
+                let iteration = words[MODE * from + 2];
                 let clock = machine[2].next_multiple_of(iteration) + 1;
                 let request = (to as u64 + 1, clock);
                 let delay = self.request(at, &words[..], &mut machine, request)?;
                 let told = || format!("worst of {from} to {to}\n{}", shown(&self.kept[at].text));
-                let worst = Some(words[741 * MODES + 3 * (MODES * from + to) + 2]);
+                let worst = Some(words[change_at(from, to) + 2]);
                 same("delay", &delay, &worst, told)?;
                 self.reached += 1;
             }
@@ -278,8 +278,7 @@ impl<A: Planner, B: Planner> Differ<A, B> {
     ) -> Result<(), Difference> {
         let Some(delay) = delay else { return Ok(()) };
         let kept = &self.kept[at];
-        let change = MODES * (from as usize - 1) + to as usize - 1;
-        let worst = kept.words[741 * MODES + 3 * change + 2];
+        let worst = kept.words[change_at(from as usize - 1, to as usize - 1) + 2];
         let told = || format!("{from} to {to} in {delay}\n{}", shown(&kept.text));
         same("delay above the worst", &(delay > worst), &false, told)
     }
@@ -288,7 +287,7 @@ impl<A: Planner, B: Planner> Differ<A, B> {
     fn some_mode(&mut self, words: &[u64; WORDS], running: u64) -> u64 {
         let random = &mut self.random;
         let listed: Vec<u64> = (1..=MODES as u64)
-            .filter(|&mode| mode != running && words[741 * (mode as usize - 1)] != 0)
+            .filter(|&mode| mode != running && words[MODE * (mode as usize - 1)] != 0)
             .collect();
         if listed.is_empty() || random.one_in(6) {
             return match random.below(12) {
@@ -307,7 +306,7 @@ impl<A: Planner, B: Planner> Differ<A, B> {
         let mode = self.some_mode(words, running);
         let random = &mut self.random;
         let at = (running.wrapping_sub(1) as usize).min(MODES - 1);
-        let iteration = words[741 * at + 2].max(1);
+        let iteration = words[MODE * at + 2].max(1);
         let rounds = ended.saturating_sub(started) / iteration + random.below(3);
         let clock = match random.below(40) {
             0 => random.bits(),

@@ -1,8 +1,8 @@
 //! Damage: texts that are no longer what a writer meant, and words that are mostly no plan.
 
-use crate::layout::WORDS;
+use crate::layout::{change_at, ACTOR, ACTORS_AT, CHANGE, CHANGES, CHANNELS_AT, MODE, WORDS};
 use crate::random::Random;
-use crate::terms::{ACTORS, CHANNELS, MODES, TEXT_LIMIT};
+use crate::terms::{CHANNELS, MODES, TEXT_LIMIT};
 
 /// Bytes that mean something to a reader of tables, or must not stand in one.
 const BYTES: &[u8] = b"\",\r\n 0123456789-+.acr\t\0\x7f\x80\xff\x1f~!#";
@@ -289,26 +289,21 @@ pub fn damage_words(random: &mut Random, words: &mut [u64; WORDS], other: &[u64;
 
 /// Takes words of another plan from some place on, or one of its modes.
 fn mix(random: &mut Random, words: &mut [u64; WORDS], other: &[u64; WORDS]) {
-    let mode = random.index(MODES) * 741;
+    let mode = random.index(MODES) * MODE;
     let span = match random.below(2) {
         0 => random.index(WORDS)..WORDS,
-        _ => mode..mode + 741,
+        _ => mode..mode + MODE,
     };
     words[span.clone()].copy_from_slice(&other[span]);
-}
-
-/// The first word of the change from a mode to another.
-fn change_at(from: usize, to: usize) -> usize {
-    741 * MODES + 3 * (MODES * from + to)
 }
 
 /// Takes a mode out of a plan, with all its changes.
 fn drop_mode(random: &mut Random, words: &mut [u64; WORDS]) {
     let mode = random.index(MODES);
-    words[741 * mode..741 * (mode + 1)].fill(0);
+    words[MODE * mode..MODE * (mode + 1)].fill(0);
     for other in 0..MODES {
         for at in [change_at(mode, other), change_at(other, mode)] {
-            words[at..at + 3].fill(0);
+            words[at..at + CHANGE].fill(0);
         }
     }
 }
@@ -323,11 +318,11 @@ fn swap_modes(random: &mut Random, words: &mut [u64; WORDS]) {
         _ => mode,
     };
     for from in 0..MODES {
-        let (old, new) = (741 * from, 741 * renamed(from));
-        words[new..new + 741].copy_from_slice(&before[old..old + 741]);
+        let (old, new) = (MODE * from, MODE * renamed(from));
+        words[new..new + MODE].copy_from_slice(&before[old..old + MODE]);
         for to in 0..MODES {
             let (old, new) = (change_at(from, to), change_at(renamed(from), renamed(to)));
-            words[new..new + 3].copy_from_slice(&before[old..old + 3]);
+            words[new..new + CHANGE].copy_from_slice(&before[old..old + CHANGE]);
         }
     }
 }
@@ -353,9 +348,9 @@ fn nudge_used(random: &mut Random, words: &mut [u64; WORDS]) {
 
 /// Changes the wcet or the processor of an actor, which now and then leaves all else as it is.
 fn nudge_actor(random: &mut Random, words: &mut [u64; WORDS]) {
-    let is_actor = |at: usize| at < 741 * MODES && (5..5 + 6 * ACTORS).contains(&(at % 741));
+    let is_actor = |at: usize| at < CHANGES && (ACTORS_AT..CHANNELS_AT).contains(&(at % MODE));
     let mut actors = used(words);
-    actors.retain(|&at| is_actor(at) && (at % 741 - 5) % 6 == 0);
+    actors.retain(|&at| is_actor(at) && (at % MODE - ACTORS_AT) % ACTOR == 0);
     if actors.is_empty() {
         return;
     }

@@ -1,4 +1,4 @@
-//! The plan buffer of docs/PLAN.md: 6120 words that hold a table and all that is planned of it.
+//! The plan buffer of docs/PLAN.md: words that hold a table and all that is planned of it.
 
 use crate::plan::{plan, Part, Plan};
 use crate::table::{Actor, Channel, Mode, Table};
@@ -8,14 +8,14 @@ use crate::terms::{places, ACTORS, CHANNELS, MODES, PHASES, PROCESSORS, RATE_LIM
 pub const WORDS: usize = CHANGES + CHANGE * MODES * MODES;
 
 /// Words of a mode: five, then the actors, then the channels.
-const MODE: usize = CHANNELS_AT + CHANNEL * CHANNELS;
-const ACTORS_AT: usize = 5;
-const ACTOR: usize = 6;
-const CHANNELS_AT: usize = ACTORS_AT + ACTOR * ACTORS;
-const CHANNEL: usize = 4 + 2 * PHASES;
+pub const MODE: usize = CHANNELS_AT + CHANNEL * CHANNELS;
+pub const ACTORS_AT: usize = 5;
+pub const ACTOR: usize = 6;
+pub const CHANNELS_AT: usize = ACTORS_AT + ACTOR * ACTORS;
+pub const CHANNEL: usize = 4 + 2 * PHASES;
 /// The changes stand behind all modes.
-const CHANGES: usize = MODE * MODES;
-const CHANGE: usize = 3;
+pub const CHANGES: usize = MODE * MODES;
+pub const CHANGE: usize = 3;
 
 /// Writes the words of a plan; what is not in use is 0.
 pub fn write(table: &Table, plan: &Plan, words: &mut [u64]) {
@@ -73,6 +73,11 @@ pub fn recall(words: &[u64]) -> Option<(Table, Plan)> {
     let mut again = [0; WORDS];
     write(&table, &plan, &mut again);
     (again == *words).then_some((table, plan))
+}
+
+/// The first word of the change from the mode at a place to the mode at another.
+pub fn change_at(from: usize, to: usize) -> usize {
+    CHANGES + CHANGE * (MODES * from + to)
 }
 
 /// Whether the buffer is exactly what some accepted table leaves.

@@ -2,10 +2,28 @@
 
 use crate::plan::{listed, Part, Plan};
 use crate::table::{Mode, Table};
-use crate::terms::{places, Refusal};
+use crate::terms::{places, Refusal, ACTORS, CHANNELS, ITERATION_LIMIT, MODES, PHASES, RATE_LIMIT};
 
-/// Bytes of the buffer into which a plan is printed: no text of a plan is longer.
-pub const PRINTED: usize = 19_032;
+/// Bytes of the buffer into which a plan is printed: no text of a plan is longer. A line has a word, five commas, five numbers and CRLF.
+pub const PRINTED: usize = MODES
+    * (ACTORS * (5 + 7 + MODE + ACTOR + 2 * PERIOD + START)
+        + CHANNELS * (7 + 7 + MODE + 2 * ACTOR + SIZE + CARRIED)
+        + (MODES - 1) * (6 + 7 + 2 * MODE + 2 * START + DELAY));
+
+/// The digits of the greatest number of each kind, as docs/PLAN.md bounds them.
+const MODE: usize = digits(MODES as u64);
+const ACTOR: usize = digits(ACTORS as u64);
+const PERIOD: usize = digits(ITERATION_LIMIT);
+const START: usize = digits(MOST_START);
+const DELAY: usize = digits(2 * MOST_START + ITERATION_LIMIT);
+const CARRIED: usize = digits(ITERATION_LIMIT * RATE_LIMIT);
+const SIZE: usize =
+    digits((2 * MOST_START + 3 * ITERATION_LIMIT + 3) * (PHASES as u64 * RATE_LIMIT));
+const MOST_START: u64 = (ACTORS as u64 - 1) * 2 * ITERATION_LIMIT;
+
+const fn digits(n: u64) -> usize {
+    n.ilog10() as usize + 1
+}
 
 /// Prints a plan and 0 behind it; returns the length of its text.
 pub fn print(table: &Table, plan: &Plan, out: &mut [u8]) -> usize {

@@ -110,7 +110,8 @@ pub fn words_of(text: &[u8]) -> Vec<u64> {
 #[cfg(test)]
 mod tests {
     use super::*;
-    use crate::terms::{Refusal, ITERATION_LIMIT};
+    use crate::layout::MODE;
+    use crate::terms::{Refusal, ITERATION_LIMIT, MODES};
 
     #[test]
     fn samples_are_what_they_say() {
@@ -127,7 +128,7 @@ mod tests {
         let (short, long) = short_and_long();
         for (text, iteration) in [(short, 16), (long, ITERATION_LIMIT)] {
             let words = words_of(&text);
-            assert!((0..8).all(|mode| words[741 * mode + 2] == iteration));
+            assert!((0..MODES).all(|mode| words[MODE * mode + 2] == iteration));
         }
         for text in [middle(), greatest()] {
             assert!(read(&text).is_ok_and(|table| plan(&table).is_ok()));

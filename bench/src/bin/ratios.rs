@@ -13,11 +13,12 @@ fn main() {
 #[cfg(product)]
 mod measured {
     use bench::clock::{Contestant, Rounds};
-    use bench::layout::WORDS;
+    use bench::layout::{MODE, WORDS};
     use bench::planner::{Independent, Planner};
     use bench::print::PRINTED;
     use bench::product::Product;
     use bench::samples;
+    use bench::terms::MODES;
     use std::hint::black_box;
 
     /// Measures and prints everything.
@@ -102,7 +103,9 @@ mod measured {
 
     /// A request that is accepted, to a fresh machine each time.
     fn asks<'a>(planner: impl Planner + 'a, words: &'a [u64]) -> Contestant<'a> {
-        let listed: Vec<u64> = (0..8).filter(|&m| words[741 * m as usize] != 0).collect();
+        let listed: Vec<u64> = (0..MODES as u64)
+            .filter(|&m| words[MODE * m as usize] != 0)
+            .collect();
         let (from, to) = (listed[0] + 1, listed[listed.len() - 1] + 1);
         let mut machine = [0; 3];
         planner.start(words, from, &mut machine);

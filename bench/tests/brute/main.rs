@@ -5,12 +5,12 @@ mod firings;
 mod walk;
 
 use bench::generate::{any, KINDS};
-use bench::layout::{stored, write, WORDS};
+use bench::layout::{stored, write, ACTOR, ACTORS_AT, CHANGES, CHANNEL, CHANNELS_AT, MODE, WORDS};
 use bench::machine::start;
 use bench::plan::{plan, Plan};
 use bench::random::Random;
 use bench::table::{read, Table};
-use bench::terms::{ACTORS, MODES};
+use bench::terms::MODES;
 use bench::text::{mixed, plain, style};
 use walk::{change, leaving_tick, walk_table, Walked};
 
@@ -208,12 +208,13 @@ fn a_plan_is_told_from_what_is_none() {
 
 /// The words that do not hold the table itself but what is planned of it, now and then one.
 fn planned_words() -> impl Iterator<Item = usize> {
-    let actors = |at: usize| (5..5 + 6 * ACTORS).contains(&at) && (at - 5) % 6 >= 3;
-    let channels = |at: usize| at >= 101 && (at - 101) % 20 >= 18;
+    let actors =
+        |at: usize| (ACTORS_AT..CHANNELS_AT).contains(&at) && (at - ACTORS_AT) % ACTOR >= 3;
+    let channels = |at: usize| at >= CHANNELS_AT && (at - CHANNELS_AT) % CHANNEL >= CHANNEL - 2;
     (0..WORDS)
         .filter(move |&word| {
-            let at = word % 741;
-            word >= 741 * MODES || (2..5).contains(&at) || actors(at) || channels(at)
+            let at = word % MODE;
+            word >= CHANGES || (2..5).contains(&at) || actors(at) || channels(at)
         })
         .step_by(7)
 }
