@@ -13,7 +13,7 @@ use Rattle.numbers.specs.Filled.{Filled, FilledBy, filled-weaker}
 use Rattle.numbers.specs.Reckoned.{gcd-of}
 use Rattle.units.specs.declared.Tick.{Tick}
 use Rattle.units.specs.declared.Token.{Token}
-use Rattle.units.specs.Ticks.{tick, plusTicks}
+use Rattle.units.specs.Ticks.{tick, plusTicks, timesTicks}
 use Rattle.units.specs.Tokens.{token, plusTokens, timesTokens}
 use Rattle.units.specs.Bounds.{MOST-TOKENS, MOST-START, MOST-SIZE}
 use Rattle.units.specs.Limits.{PHASES, MOST-RATE, ITERATION-LIMIT}
@@ -37,6 +37,13 @@ endOf rates period n = record { phases = n; rates = rates; period = period }
 -- the cycles of the producer that are added
 abbrev pub MOST-ADDED : ℕ
 MOST-ADDED = MOST-START .0 + 2
+
+abbrev pub MOST-SPAN : Tick
+MOST-SPAN = tick (MOST-START .0 + 2 * ITERATION-LIMIT .0)
+
+pub record Adds (p : End) (cycles : ℕ) : Type 0 where
+  pub few : cycles ≤ MOST-ADDED
+  pub span : timesTicks cycles (cycleTicks p) .0 ≤ MOST-SPAN .0
 
 -- an end within the limits, whose cycle is not longer than an iteration
 pub record Brief (e : End) : Type 0 where
@@ -158,7 +165,7 @@ pub record Long (w : Pace) : Type 0 where
   pub some : 0 < w .step .ticks .0
   pub common : w .step .tokens .0 ≤ MOST-TOKENS .0
   pub tokens : w .tokens .0 ≤ MOST-ADDED * MOST-TOKENS .0
-  pub ticks : w .ticks .0 ≤ MOST-START .0 + 2 * ITERATION-LIMIT .0
+  pub ticks : w .ticks .0 ≤ MOST-SPAN .0
 
 pub record Few (h : Hold) : Type 0 where
   pub more : h .more .0 ≤ MANY .0
@@ -174,7 +181,7 @@ module _ (w : Pace) (t : Tick) (n : Token) (h : Long w) (e : Early t n) where
 
   pub back-few : Few (backOf w t n)
   back-few =
-      let less : (t .0 + w .ticks .0) / w .step .ticks .0 ≤ MOST-START .0 + ITERATION-LIMIT .0 + 1 + (MOST-START .0 + 2 * ITERATION-LIMIT .0) =
+      let less : (t .0 + w .ticks .0) / w .step .ticks .0 ≤ MOST-START .0 + ITERATION-LIMIT .0 + 1 + MOST-SPAN .0 =
       le-trans (div-le-self (t .0 + w .ticks .0) (w .step .ticks .0)) (omega (arith, e .at, h .ticks)) in
       record { more = omega (arith, mul-le-mul less (h .common)); fewer = omega (arith, e .tokens, h .tokens) }
 
@@ -191,16 +198,20 @@ claims-ready p sp w l h b q =
     given-ready noHold Few (claimingAt w p sp) (p .phases) l (λ s r. claiming-few w _ _ q (claiming-early p s h r sp b))
 
 module _ (p : End) (sp : Tick) (c : End) (w : Paced p c) (b : sp .0 ≤ MOST-START .0) where
-  pub cycles-most : cyclesOf p sp ≤ MOST-ADDED
-  cycles-most = omega (arith, b, div-le-self (sp .0) (cycleTicks p .0))
+  pub cycles-add : Adds p (cyclesOf p sp)
+  cycles-add =
+      record {
+        few = omega (arith, b, div-le-self (sp .0) (cycleTicks p .0));
+        span = omega (arith, b, div-mul-le-self (sp .0) (cycleTicks p .0), cycle-p p c w);
+      }
 
   pub pace-long : Long (paceOf p c (cyclesOf p sp))
   pace-long =
       record {
         some = in-step p c w 1 .some-G;
         common = le-trans (le-of-dvd (w .producer .moves) (gcd-of (cycleTokens p .0) (cycleTokens c .0) .left)) (cycle-most p (w .producer));
-        tokens = mul-le-mul cycles-most (cycle-most p (w .producer));
-        ticks = omega (arith, b, div-mul-le-self (sp .0) (cycleTicks p .0), cycle-p p c w);
+        tokens = mul-le-mul (cycles-add .few) (cycle-most p (w .producer));
+        ticks = cycles-add .span;
       }
 
 -- the size from the holds

@@ -8,7 +8,7 @@ ghost use mathlib.Core.Path.{_≡_};
 ghost use Prim.Native.Nat.{_≤_};
 ghost use Rattle.channel.specs.Flow.{Proper, Paced, cycleTokens, cycleTicks};
 ghost use Rattle.channel.specs.Phases.{paceOf};
-ghost use Rattle.channel.specs.Bounds.{Brief, MOST-ADDED};
+ghost use Rattle.channel.specs.Bounds.{Brief, Adds};
 
 // The step of a channel's pace; and the tokens and the ticks of some cycles of the producer, which are added so that no difference falls below 0.
 pub(crate) struct Pace {
@@ -38,7 +38,7 @@ pub(crate) fn ticks_of(end: End) -> Tick
 
 // The pace of two ends, with so many cycles of the producer.
 pub(crate) fn pace_of(producer: End, consumer: End, cycles: u64) -> Pace
-    requires { ⌜ Paced producer consumer × (cycles ≤ MOST-ADDED) ⌝ }
+    requires { ⌜ Paced producer consumer × Adds producer cycles ⌝ }
     ensures { λ r. ⌜ r ≡ paceOf producer consumer cycles ⌝ }
 {
     let made = tokens_of(producer);

@@ -1,6 +1,6 @@
 -- channel::least_start meets its contract. Assumes nothing.
-use borrow.Author.Needs.{needs}
 use mathlib.Core.Path.{sym, subst, _∙_}
+use native.Mathlib.Omega.{arith}
 use Rattle.numbers.specs.Extreme.{Least}
 use Rattle.units.specs.declared.Tick.{Tick}
 use Rattle.units.specs.Ticks.{tick}
@@ -9,6 +9,11 @@ use Rattle.channel.specs.Laws.{start-least}
 use Rattle.channel.specs.Bounds.{Short, brief-p, brief-c, pace-short, gives-ready, start-from}
 use Rattle.channel.proofs.least_start.Statement.{statement}
 use Rattle.channel.proofs.least_start.Tie as tie
+
+pace-of-requires : tie.Need-pace-of-requires
+pace-of-requires c κs =
+    let w = c .pre .0 in
+    (w, record { few = omega arith; span = omega (arith, brief-p (c .args .producer) (c .args .consumer) w .cycle) })
 
 gives-requires : tie.Need-gives-requires
 gives-requires c κs =
@@ -34,4 +39,4 @@ returns c =
     subst (λ (t : Tick). Least (λ k. Fed p (s .args .start) q (tick k)) (t .0)) (sym e) (start-least p q (s .pre .0) (s .args .start))
 
 pub least-start-spec : {M : Type 1} → statement M
-least-start-spec = tie.close (tie.spec (λ c κs. search needs) gives-requires latest-requires returns)
+least-start-spec = tie.close (tie.spec pace-of-requires gives-requires latest-requires returns)

@@ -1,7 +1,6 @@
 -- channel::size meets its contract. Assumes nothing.
 use mathlib.Core.Path.{_≡_, ap, sym, subst, _∙_}
 use Prim.Native.Nat.{ℕ, _+_, _/_, _≤_, _<_}
-use native.Mathlib.Nat.{le-trans, le-of-eq}
 use native.Mathlib.Omega.{arith}
 use Rattle.units.specs.Bounds.{MOST-START}
 use Rattle.units.specs.declared.Tick.{Tick}
@@ -11,7 +10,7 @@ use Rattle.channel.specs.declared.pace.Pace.{Pace}
 use Rattle.channel.specs.Flow.{IsSize, Paced, cycleTicks}
 use Rattle.channel.specs.Laws.{cycle-pos, size-greatest}
 use Rattle.channel.specs.Phases.{paceOf, cyclesOf}
-use Rattle.channel.specs.Bounds.{Long, MOST-ADDED, brief-p, brief-c, cycles-most, pace-long, claims-ready, size-from}
+use Rattle.channel.specs.Bounds.{Adds, Long, brief-p, brief-c, cycles-add, pace-long, claims-ready, size-from}
 use Rattle.channel.proofs.size.Statement.{statement}
 use Rattle.channel.proofs.size.Tie as tie
 
@@ -19,8 +18,8 @@ use Rattle.channel.proofs.size.Tie as tie
 cycles-are : (p : End) (sp cycle : Tick) {n : ℕ} → cycle ≡ cycleTicks p → n ≡ sp .0 / cycle .0 → n + 2 ≡ cyclesOf p sp
 cycles-are p sp cycle e f = ap (λ (n : ℕ). n + 2) (f ∙ ap (λ (t : Tick). sp .0 / t .0) e)
 
-cycles-fit : (p c : End) (sp cycle : Tick) {n : ℕ} → Paced p c → sp .0 ≤ MOST-START .0 → cycle ≡ cycleTicks p → n ≡ sp .0 / cycle .0 → n + 2 ≤ MOST-ADDED
-cycles-fit p c sp cycle h b e f = le-trans (le-of-eq (cycles-are p sp cycle e f)) (cycles-most p sp c h b)
+cycles-fit : (p c : End) (sp cycle : Tick) {n : ℕ} → Paced p c → sp .0 ≤ MOST-START .0 → cycle ≡ cycleTicks p → n ≡ sp .0 / cycle .0 → Adds p (n + 2)
+cycles-fit p c sp cycle h b e f = subst (Adds p) (sym (cycles-are p sp cycle e f)) (cycles-add p sp c h b)
 
 long : (p c : End) (sp : Tick) {w : Pace} → Paced p c → sp .0 ≤ MOST-START .0 → w ≡ paceOf p c (cyclesOf p sp) → Long w
 long p c sp h b e = subst Long (sym e) (pace-long p sp c h b)
@@ -43,7 +42,7 @@ add-cycles : tie.Need-add-cycles
 add-cycles c =
     let s = c .before .before in
     let a = s .args in
-    omega (arith, cycles-fit (a .producer) (a .consumer) (a .start) _ (s .pre .0) (s .pre .2) (c .before .ticks-of .ensures) (c .per .ensures))
+    omega (arith, cycles-fit (a .producer) (a .consumer) (a .start) _ (s .pre .0) (s .pre .2) (c .before .ticks-of .ensures) (c .per .ensures) .few)
 
 claims-requires : tie.Need-claims-requires
 claims-requires c κs =

@@ -19,12 +19,12 @@ step-of-requires c κs =
 times-requires : tie.Need-times-requires
 times-requires c κs =
     let s = c .before .before .before .before in
-    rw (c .before .before .before .tokens-of .ensures) (omega (arith, mul-le-mul (s .pre .1) (cycle-most (s .args .producer) (s .pre .0 .producer))))
+    rw (c .before .before .before .tokens-of .ensures) (omega (arith, mul-le-mul (s .pre .1 .few) (cycle-most (s .args .producer) (s .pre .0 .producer))))
 
 times-requires-2 : tie.Need-times-requires-2
 times-requires-2 c κs =
     let s = c .before .before .before .before .before in
-    rw (c .before .before .before .ticks-of .ensures) (omega (arith, mul-le-mul (s .pre .1) (brief-p (s .args .producer) (s .args .consumer) (s .pre .0) .cycle)))
+    rw (c .before .before .before .ticks-of .ensures) (omega (arith, s .pre .1 .span))
 
 returns : tie.Need-returns
 returns c =
