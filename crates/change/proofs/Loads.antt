@@ -20,7 +20,7 @@ use Rattle.units.specs.Ticks.{tick}
 use Rattle.units.specs.declared.Tick.{Tick}
 use Rattle.units.specs.declared.Firing.{Firing}
 use Rattle.period.specs.Period.{workOf, partOf}
-use Rattle.graph.specs.declared.shape.Actor.{Actor}
+use Rattle.tables.specs.declared.Actor.{Actor}
 use Rattle.change.specs.declared.Running.{Running}
 use Rattle.change.specs.Work.{Fitting, actorAt, firingsAt, tickAt, between, countedOf, workBetween}
 use Rattle.change.specs.Change.{actorIn, startOf, askedBy, isOn, askedOf, Ready}

@@ -14,9 +14,9 @@ use Rattle.units.specs.Limits.{ACTORS, PROCESSORS, ITERATION-LIMIT, LOAD-LIMIT}
 use Rattle.units.specs.Ticks.{tick}
 use Rattle.units.specs.declared.Tick.{Tick}
 use Rattle.period.specs.Period.{partOf}
-use Rattle.graph.specs.declared.shape.Actor.{Actor}
-use Rattle.graph.specs.Shape.{noActor}
-use Rattle.graph.specs.Proper.{ProperActor}
+use Rattle.tables.specs.declared.Actor.{Actor}
+use Rattle.tables.specs.Shape.{noActor}
+use Rattle.tables.specs.Proper.{ProperActor}
 use Rattle.change.specs.declared.Running.{Running}
 use Rattle.change.specs.declared.Timing.{Timing}
 use Rattle.change.specs.Work.{actorAt, firingsAt, tickAt, sincesOf, untilsOf}

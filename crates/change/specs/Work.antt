@@ -14,8 +14,8 @@ use Rattle.units.specs.Ticks.{tick}
 use Rattle.units.specs.declared.Tick.{Tick}
 use Rattle.units.specs.declared.Firing.{Firing}
 use Rattle.period.specs.Period.{workOf}
-use Rattle.graph.specs.declared.shape.Actor.{Actor}
-use Rattle.graph.specs.Shape.{noActor}
+use Rattle.tables.specs.declared.Actor.{Actor}
+use Rattle.tables.specs.Shape.{noActor}
 use Rattle.change.specs.declared.Running.{Running}
 
 -- an actor, its firings and its start

@@ -6,7 +6,7 @@ use crate::wait::offset_of;
 use crate::wait::overlap_of;
 use crate::work::sinces;
 use crate::work::untils;
-use graph::shape::Actor;
+use tables::Actor;
 use units::Firing;
 use units::Tick;
 use units::limits::ACTORS;

@@ -1,5 +1,5 @@
 // The work of the actors that start between two ticks.
-use graph::shape::Actor;
+use tables::Actor;
 use units::Firing;
 use units::Tick;
 use units::limits::ACTORS;

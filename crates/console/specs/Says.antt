@@ -4,7 +4,7 @@ use mathlib.Core.List.{List}
 use Prim.Native.Nat.{ℕ}
 use lib.ListN.{length, replicate}
 use Rattle.terms.specs.declared.refusal.Refusal.{Refusal}
-use Rattle.graph.specs.declared.shape.Table.{Table}
+use Rattle.tables.specs.declared.Table.{Table}
 use Rattle.whole.specs.declared.Whole.{Whole}
 use Rattle.layout.specs.Words.{WORDS}
 use Rattle.printer.specs.Printed.{planText, refusalText}

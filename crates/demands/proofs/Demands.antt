@@ -13,14 +13,14 @@ use Rattle.units.specs.Ticks.{tick}
 use Rattle.units.specs.Firings.{firing}
 use Rattle.period.specs.Period.{periodOf}
 use Rattle.terms.specs.declared.refusal.Refusal.{Refusal}
+use Rattle.tables.specs.declared.Mode.{Mode}
+use Rattle.tables.specs.declared.Table.{Table}
+use Rattle.tables.specs.Shape.{emptyTable}
 use Rattle.table.specs.declared.Answer.{Answer as ReadAnswer}
 use Rattle.table.specs.declared.Answer.the-variants.{Read, Refused as NotRead}
 use Rattle.table.specs.declared.Reading.{Reading}
 use Rattle.table.specs.Rows.{Row}
 use Rattle.table.specs.Told.{Outcome as Rows, rows, refused as rows-refused, After, Of, readingOf, Told}
-use Rattle.graph.specs.declared.shape.Mode.{Mode}
-use Rattle.graph.specs.declared.shape.Table.{Table}
-use Rattle.graph.specs.Shape.{emptyTable}
 use Rattle.graph.specs.Balance.{firingsOf}
 use Rattle.schedule.proofs.Sound.{at-actor}
 use Rattle.whole.specs.declared.Part.{Part}

@@ -14,11 +14,11 @@ use Rattle.units.specs.Firings.{firing}
 use Rattle.period.specs.Period.{periodOf}
 use Rattle.terms.specs.Place.{numberOf}
 use Rattle.terms.specs.declared.refusal.Refusal.{Refusal}
+use Rattle.tables.specs.declared.Mode.{Mode}
+use Rattle.tables.specs.declared.Table.{Table}
+use Rattle.tables.specs.Shape.{Active, modeAt, emptyTable}
 use Rattle.table.specs.declared.Answer.the-variants.{Refused as NotRead}
 use Rattle.table.specs.Told.{Told}
-use Rattle.graph.specs.declared.shape.Mode.{Mode}
-use Rattle.graph.specs.declared.shape.Table.{Table}
-use Rattle.graph.specs.Shape.{Active, modeAt, emptyTable}
 use Rattle.graph.specs.Ends.{Ends}
 use Rattle.graph.specs.Balance.{Smallest, Iteration, firingsOf}
 use Rattle.graph.specs.Load.{Overloaded}

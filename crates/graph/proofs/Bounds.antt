@@ -15,8 +15,8 @@ use Rattle.numbers.specs.Bits.{bit, Has, hasb, size, adding, has-decides, has-a
 use Rattle.numbers.specs.Decides.{Decides, decides-and, decides-not, decides-eqb, decides-true, decides-false}
 use Rattle.numbers.specs.Lowest.{lowest-is}
 use Rattle.units.specs.Limits.{ACTORS}
-use Rattle.graph.specs.declared.shape.Mode.{Mode}
-use Rattle.graph.specs.Proper.{ProperMode}
+use Rattle.tables.specs.declared.Mode.{Mode}
+use Rattle.tables.specs.Proper.{ProperMode}
 use Rattle.graph.specs.Ends.{First, Last, Only, Ends, NoEnds}
 use Rattle.graph.specs.Rounds.{predsOf, chosen, firstsOf, giversFrom, lastsOf, lowestOf}
 use Rattle.graph.proofs.Sorted.{preds-joins, to-active}

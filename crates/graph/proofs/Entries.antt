@@ -9,9 +9,9 @@ use native.Mathlib.Decide.{ℕ-discrete}
 use lib.ListN.{length, getD, set, replicate, length-set, length-replicate}
 use lib.Seq.{getD-set-same, getD-set-other}
 use Rattle.units.specs.Limits.{ACTORS}
-use Rattle.graph.specs.declared.shape.Mode.{Mode}
-use Rattle.graph.specs.Shape.{channelAt}
-use Rattle.graph.specs.Proper.{ProperMode}
+use Rattle.tables.specs.declared.Mode.{Mode}
+use Rattle.tables.specs.Shape.{channelAt}
+use Rattle.tables.specs.Proper.{ProperMode}
 use Rattle.graph.specs.Order.{Ranked}
 use Rattle.graph.specs.Counts.{Entered, entriesFrom, entriesOf}
 use Rattle.graph.proofs.Sorted.{depth-joined}

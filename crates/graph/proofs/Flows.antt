@@ -24,11 +24,11 @@ use Rattle.units.specs.Tokens.{timesTokens}
 use Rattle.rate.specs.declared.Meeting.{Meeting}
 use Rattle.rate.specs.Rate.{rateOf, rate-in}
 use Rattle.rate.specs.Reckoned.{meetOf}
-use Rattle.graph.specs.declared.shape.Mode.{Mode}
+use Rattle.tables.specs.declared.Mode.{Mode}
+use Rattle.tables.specs.Shape.{channelAt}
+use Rattle.tables.specs.Proper.{ProperMode, ProperRates}
 use Rattle.graph.specs.declared.balance.Counts.{Counts}
 use Rattle.graph.specs.declared.balance.Flow.{Flow}
-use Rattle.graph.specs.Shape.{channelAt}
-use Rattle.graph.specs.Proper.{ProperMode, ProperRates}
 use Rattle.graph.specs.Balance.{cycleSum, madeOn, takenOn}
 use Rattle.graph.specs.Counts.{MOST-TOKENS, Small, FlowIn, flowOf, aboveLimit, stays, scaledOf, withCount, metBy, fedOf, dueAt, countsFrom, balancesb}
 

@@ -12,10 +12,10 @@ use Rattle.units.specs.declared.Firing.{Firing}
 use Rattle.units.specs.Limits.{ACTORS, ITERATION-LIMIT, PROCESSORS}
 use Rattle.period.specs.declared.Length.{Length}
 use Rattle.period.specs.declared.Length.the-variants.{Is, Above as TooLong}
-use Rattle.graph.specs.declared.shape.Mode.{Mode}
+use Rattle.tables.specs.declared.Mode.{Mode}
+use Rattle.tables.specs.Shape.{Active}
+use Rattle.tables.specs.Proper.{ProperMode}
 use Rattle.graph.specs.declared.Verdict.the-variants.{Unbalanced as IsUnbalanced, Overloaded as IsOverloaded, Ends as HasNoEnds, Cyclic as IsCyclic}
-use Rattle.graph.specs.Shape.{Active}
-use Rattle.graph.specs.Proper.{ProperMode}
 use Rattle.graph.specs.Order.{Cyclic, Ranked}
 use Rattle.graph.specs.Ends.{Ends}
 use Rattle.graph.specs.Balance.{Iteration}

@@ -20,10 +20,10 @@ use Rattle.units.specs.Tokens.{timesTokens}
 use Rattle.rate.specs.declared.Meeting.{Meeting}
 use Rattle.rate.specs.Rate.{Meets}
 use Rattle.rate.specs.Reckoned.{meetOf, meet-of}
-use Rattle.graph.specs.declared.shape.Mode.{Mode}
+use Rattle.tables.specs.declared.Mode.{Mode}
+use Rattle.tables.specs.Shape.{channelAt, Active}
+use Rattle.tables.specs.Proper.{ProperMode}
 use Rattle.graph.specs.declared.balance.Counts.{Counts}
-use Rattle.graph.specs.Shape.{channelAt, Active}
-use Rattle.graph.specs.Proper.{ProperMode}
 use Rattle.graph.specs.Order.{Joins, Cyclic, Depth, Ranked}
 use Rattle.graph.specs.Ends.{Ends}
 use Rattle.graph.specs.Balance.{madeOn, takenOn, Balances, Smallest, Unbalanced}

@@ -24,10 +24,10 @@ use Rattle.units.specs.Bounds.{MOST-CYCLES}
 use Rattle.units.specs.Limits.{ACTORS, PHASES, MOST-WCET, PROCESSORS, LOAD-LIMIT}
 use Rattle.period.specs.Period.{partOf}
 use Rattle.terms.specs.Place.{numberOf}
-use Rattle.graph.specs.declared.shape.Actor.{Actor}
-use Rattle.graph.specs.declared.shape.Mode.{Mode}
-use Rattle.graph.specs.Shape.{noActor, actorAt}
-use Rattle.graph.specs.Proper.{ProperMode}
+use Rattle.tables.specs.declared.Actor.{Actor}
+use Rattle.tables.specs.declared.Mode.{Mode}
+use Rattle.tables.specs.Shape.{noActor, actorAt}
+use Rattle.tables.specs.Proper.{ProperMode}
 use Rattle.graph.specs.Balance.{Iteration, firingsOf, workIn}
 use Rattle.graph.specs.Load.{isOn, askedBy, loadOf, Overloaded, shareOf}
 use Rattle.graph.specs.Laws.{iteration-pos, period-whole, period-fits}

@@ -17,11 +17,11 @@ use Rattle.numbers.specs.Bits.{bit, Has, hasb, Within, size, adding, has-or-not
 use Rattle.numbers.specs.Decides.{Decides, decides-and, decides-true, decides-false}
 use Rattle.numbers.specs.Tab.{getD-replicated}
 use Rattle.units.specs.Limits.{ACTORS}
-use Rattle.graph.specs.declared.shape.Channel.{Channel}
-use Rattle.graph.specs.declared.shape.Mode.{Mode}
+use Rattle.tables.specs.declared.Channel.{Channel}
+use Rattle.tables.specs.declared.Mode.{Mode}
+use Rattle.tables.specs.Shape.{channelAt, Active}
+use Rattle.tables.specs.Proper.{ProperMode}
 use Rattle.graph.specs.declared.order.Order.{Order}
-use Rattle.graph.specs.Shape.{channelAt, Active}
-use Rattle.graph.specs.Proper.{ProperMode}
 use Rattle.graph.specs.Order.{Joins, Path, one, more, Cyclic, Leads, start, step, Depth, Ranked}
 use Rattle.graph.specs.Ends.{First}
 use Rattle.graph.specs.Rounds.{joined, predsFrom, predsOf, moved, ready, roundFrom, unordered, orderFrom, orderOf}

@@ -20,10 +20,10 @@ use Rattle.units.specs.Limits.{ACTORS, PROCESSORS, LOAD-LIMIT}
 use Rattle.units.specs.Firings.{firing}
 use Rattle.period.specs.Period.{periodOf}
 use Rattle.terms.specs.Place.{numberOf}
-use Rattle.graph.specs.declared.shape.Mode.{Mode}
+use Rattle.tables.specs.declared.Mode.{Mode}
+use Rattle.tables.specs.Shape.{Active, actorAt}
 use Rattle.graph.specs.declared.Verdict.the-variants.{Overloaded as IsOverloaded}
 use Rattle.graph.specs.declared.Judgement.{Judgement}
-use Rattle.graph.specs.Shape.{Active, actorAt}
 use Rattle.graph.specs.Ends.{Only}
 use Rattle.graph.specs.Balance.{Smallest, Iteration, firingsOf, workIn}
 use Rattle.graph.specs.Load.{Overloaded, isOn, askedBy, loadOf, shareOf}

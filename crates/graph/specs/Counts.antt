@@ -12,12 +12,12 @@ use Rattle.units.specs.Limits.{ACTORS, PHASES, MOST-RATE}
 use Rattle.units.specs.Tokens.{timesTokens}
 use Rattle.rate.specs.declared.Meeting.{Meeting}
 use Rattle.rate.specs.Reckoned.{meetOf}
-use Rattle.graph.specs.declared.shape.Actor.{Actor}
-use Rattle.graph.specs.declared.shape.Channel.{Channel}
-use Rattle.graph.specs.declared.shape.Mode.{Mode}
+use Rattle.tables.specs.declared.Actor.{Actor}
+use Rattle.tables.specs.declared.Channel.{Channel}
+use Rattle.tables.specs.declared.Mode.{Mode}
+use Rattle.tables.specs.Shape.{actorAt, channelAt, Active}
 use Rattle.graph.specs.declared.balance.Counts.{Counts}
 use Rattle.graph.specs.declared.balance.Flow.{Flow}
-use Rattle.graph.specs.Shape.{actorAt, channelAt, Active}
 use Rattle.graph.specs.Balance.{cycleSum, madeOn, takenOn}
 
 -- the most tokens of a cycle

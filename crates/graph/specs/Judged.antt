@@ -13,13 +13,13 @@ use Rattle.units.specs.Limits.{ACTORS, PROCESSORS, ITERATION-LIMIT}
 use Rattle.units.specs.Firings.{firing}
 use Rattle.period.specs.Period.{periodOf}
 use Rattle.terms.specs.Place.{numberOf}
-use Rattle.graph.specs.declared.shape.Mode.{Mode}
+use Rattle.tables.specs.declared.Mode.{Mode}
+use Rattle.tables.specs.Shape.{Active}
 use Rattle.graph.specs.declared.Verdict.{Verdict}
 use Rattle.graph.specs.declared.Verdict.the-variants.{Cyclic as IsCyclic, Ends as HasNoEnds, Unbalanced as IsUnbalanced, Overloaded as IsOverloaded, Sound as IsSound}
 use Rattle.graph.specs.declared.Judgement.{Judgement}
 use Rattle.graph.specs.Order.{Cyclic, Depth}
 use Rattle.graph.specs.Ends.{Ends, NoEnds}
-use Rattle.graph.specs.Shape.{Active}
 use Rattle.graph.specs.Balance.{Smallest, Iteration, Unbalanced, firingsOf}
 use Rattle.graph.specs.Load.{Overloaded, shareOf}
 

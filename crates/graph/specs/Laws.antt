@@ -9,9 +9,9 @@ use Rattle.units.specs.declared.Tick.{Tick}
 use Rattle.units.specs.Ticks.{tick}
 use Rattle.units.specs.Firings.{firing}
 use Rattle.period.specs.Period.{periodOf, iteration-unique}
-use Rattle.graph.specs.declared.shape.Mode.{Mode}
-use Rattle.graph.specs.Shape.{actorAt, Active}
-use Rattle.graph.specs.Proper.{ProperMode}
+use Rattle.tables.specs.declared.Mode.{Mode}
+use Rattle.tables.specs.Shape.{actorAt, Active}
+use Rattle.tables.specs.Proper.{ProperMode}
 use Rattle.graph.specs.Balance.{Balances, Iteration, firingsOf, workIn}
 
 module _ (m : Mode) (x : ℕ → ℕ) where

@@ -23,8 +23,8 @@ use Rattle.period.specs.Period.{workOf, periodOf, partOf}
 use Rattle.period.specs.Reckoned.{commonOf, iterationOf}
 use Rattle.rate.specs.Rate.{cyclesOf}
 use Rattle.terms.specs.Place.{numberOf}
-use Rattle.graph.specs.declared.shape.Actor.{Actor}
-use Rattle.graph.specs.Shape.{noActor}
+use Rattle.tables.specs.declared.Actor.{Actor}
+use Rattle.tables.specs.Shape.{noActor}
 
 -- actors within their ranges
 pub record Fitting (acts : List Actor) : Type 0 where

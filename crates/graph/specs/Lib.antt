@@ -1,7 +1,4 @@
 -- The rules of a mode's graph, and then the models of the code that finds it.
-pub mod Shape
-pub mod Proper
-pub mod Grown
 pub mod Order
 pub mod Ends
 pub mod Balance

@@ -11,8 +11,8 @@ use Rattle.units.specs.Ticks.{tick}
 use Rattle.units.specs.Limits.{ACTORS, PROCESSORS, LOAD-LIMIT}
 use Rattle.period.specs.Period.{periodOf, partOf}
 use Rattle.terms.specs.Place.{numberOf}
-use Rattle.graph.specs.declared.shape.Mode.{Mode}
-use Rattle.graph.specs.Shape.{actorAt}
+use Rattle.tables.specs.declared.Mode.{Mode}
+use Rattle.tables.specs.Shape.{actorAt}
 use Rattle.graph.specs.Balance.{firingsOf, workIn}
 
 -- actor i is active on processor p

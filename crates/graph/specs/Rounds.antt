@@ -8,10 +8,10 @@ use lib.ListN.{getD, set, replicate}
 use Rattle.numbers.specs.Bits.{hasb, size, adding, removing}
 use Rattle.numbers.specs.Lowest.{lowestOr}
 use Rattle.units.specs.Limits.{ACTORS}
-use Rattle.graph.specs.declared.shape.Channel.{Channel}
-use Rattle.graph.specs.declared.shape.Mode.{Mode}
+use Rattle.tables.specs.declared.Channel.{Channel}
+use Rattle.tables.specs.declared.Mode.{Mode}
+use Rattle.tables.specs.Shape.{channelAt}
 use Rattle.graph.specs.declared.order.Order.{Order}
-use Rattle.graph.specs.Shape.{channelAt}
 
 -- the sets with one channel more
 abbrev pub joined : List ℕ → Channel → List ℕ

@@ -1,8 +1,8 @@
 // The smallest cycle counts that balance a mode's channels.
-use crate::shape::Actor;
-use crate::shape::Channel;
-use crate::shape::Mode;
 use bits::has;
+use tables::Actor;
+use tables::Channel;
+use tables::Mode;
 use units::Token;
 use units::bounds::MOST_CYCLES;
 use units::limits::ACTORS;
@@ -11,8 +11,8 @@ ghost use mathlib.Core.Path.{_≡_};
 ghost use Prim.Native.Nat.{_*_, _<_, _≤_};
 ghost use lib.ListN.{length};
 ghost use Rattle.units.specs.Limits.{ACTORS, PHASES};
+ghost use Rattle.tables.specs.Proper.{ProperMode};
 ghost use Rattle.graph.specs.Balance.{cycleSum};
-ghost use Rattle.graph.specs.Proper.{ProperMode};
 ghost use Rattle.graph.specs.Counts.{MOST-TOKENS, Small, FlowIn, Entered, flowBetween, entriesOf, aboveLimit, scaledOf, fedOf, countsFrom, balancesb};
 
 // A channel by its producer and the tokens that a cycle of the one makes and a cycle of the other takes.

@@ -1,8 +1,8 @@
 // The length of a mode's iteration, and the periods of its actors.
-use crate::shape::Actor;
 use bits::has;
 use period::Firings;
 use period::Length;
+use tables::Actor;
 use units::Firing;
 use units::Tick;
 use units::bounds::MOST_FIRINGS;

@@ -1,6 +1,6 @@
 // What the actors of a mode ask of the processors.
-use crate::shape::Actor;
 use numbers::fraction::at_most;
+use tables::Actor;
 use terms::place::number_of;
 use units::Tick;
 use units::limits::ACTORS;

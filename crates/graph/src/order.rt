@@ -1,16 +1,16 @@
 // The order of a mode's actors along its channels.
-use crate::shape::Mode;
 use bits::has;
 use bits::size;
 use bits::with;
 use bits::within;
 use bits::without;
+use tables::Mode;
 use units::limits::ACTORS;
 ghost use mathlib.Core.Path.{_≡_};
 ghost use Prim.Native.Nat.{_<_};
 ghost use lib.ListN.{length};
 ghost use Rattle.units.specs.Limits.{ACTORS};
-ghost use Rattle.graph.specs.Proper.{ProperMode};
+ghost use Rattle.tables.specs.Proper.{ProperMode};
 ghost use Rattle.graph.specs.Rounds.{predsOf, moved as movedOf, roundFrom, orderOf};
 
 // The actors that are done, those that are left, and the depths of those that are done.

@@ -11,11 +11,11 @@ use Rattle.numbers.specs.Tab.{tab, is-tab, getD-tab, getD-replicated}
 use Rattle.units.specs.Limits.{MODES, ACTORS, CHANNELS, PHASES, MOST-RATE}
 use Rattle.units.specs.Tokens.{token}
 use Rattle.units.specs.declared.Token.{Token}
-use Rattle.graph.specs.declared.shape.Channel.{Channel}
-use Rattle.graph.specs.declared.shape.Mode.{Mode}
-use Rattle.graph.specs.declared.shape.Table.{Table}
-use Rattle.graph.specs.Shape.{noActor, noChannel, noMode, channelAt, modeAt}
-use Rattle.graph.specs.Proper.{ProperMode, ProperTable}
+use Rattle.tables.specs.declared.Channel.{Channel}
+use Rattle.tables.specs.declared.Mode.{Mode}
+use Rattle.tables.specs.declared.Table.{Table}
+use Rattle.tables.specs.Shape.{noActor, noChannel, noMode, channelAt, modeAt}
+use Rattle.tables.specs.Proper.{ProperMode, ProperTable}
 use Rattle.whole.specs.declared.Part.{Part}
 use Rattle.whole.specs.declared.Whole.{Whole}
 use Rattle.whole.specs.Whole.{partAt}

@@ -5,10 +5,10 @@ use lib.ListN.{getD}
 use Rattle.numbers.specs.Tab.{tab}
 use Rattle.units.specs.Ticks.{tick}
 use Rattle.units.specs.Limits.{MODES, ACTORS, CHANNELS, PHASES}
-use Rattle.graph.specs.declared.shape.Actor.{Actor}
-use Rattle.graph.specs.declared.shape.Channel.{Channel}
-use Rattle.graph.specs.declared.shape.Mode.{Mode}
-use Rattle.graph.specs.declared.shape.Table.{Table}
+use Rattle.tables.specs.declared.Actor.{Actor}
+use Rattle.tables.specs.declared.Channel.{Channel}
+use Rattle.tables.specs.declared.Mode.{Mode}
+use Rattle.tables.specs.declared.Table.{Table}
 use Rattle.layout.specs.Joined.{stretch, part}
 use Rattle.layout.specs.Words.{HEAD-WORDS, ACTOR-WORDS, CHANNEL-WORDS, MODE-WORDS}
 

@@ -2,8 +2,8 @@
 use crate::store;
 use crate::store::CHANGES_WORDS;
 use crate::store::MODE_WORDS;
-use graph::shape::Mode;
-use graph::shape::Table;
+use tables::Mode;
+use tables::Table;
 use units::limits::MODES;
 use whole::Part;
 use whole::Whole;

@@ -3,7 +3,7 @@ mod compare;
 mod load;
 mod store;
 
-use graph::shape::Table;
+use tables::Table;
 use units::limits::MODES;
 use whole::Whole;
 ghost use mathlib.Core.Path.{_≡_};

@@ -1,9 +1,9 @@
 // The words are written: each function is lent the part that it fills.
 use change::Timing;
-use graph::shape::Actor;
-use graph::shape::Channel;
-use graph::shape::Mode;
-use graph::shape::Table;
+use tables::Actor;
+use tables::Channel;
+use tables::Mode;
+use tables::Table;
 use units::Firing;
 use units::Tick;
 use units::Token;

@@ -10,7 +10,7 @@ use lib.Dec.{T}
 use Rattle.numbers.specs.Every.{Every}
 use Rattle.units.specs.declared.Tick.{Tick}
 use Rattle.units.specs.Ticks.{tick}
-use Rattle.graph.specs.declared.shape.Table.{Table}
+use Rattle.tables.specs.declared.Table.{Table}
 use Rattle.whole.specs.declared.Whole.{Whole}
 use Rattle.whole.specs.Whole.{changeAt}
 use Rattle.run.specs.Plan.{Acts}

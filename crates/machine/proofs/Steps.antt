@@ -17,9 +17,9 @@ use Rattle.units.specs.declared.Tick.{Tick}
 use Rattle.units.specs.Ticks.{tick}
 use Rattle.terms.specs.Refusal.{NO-MODE, SAME-MODE, PAST-CLOCK, UNENDED, NO-MACHINE}
 use Rattle.terms.specs.Place.{numberOf}
-use Rattle.graph.specs.declared.shape.Table.{Table}
-use Rattle.graph.specs.Shape.{modeAt}
-use Rattle.graph.specs.Proper.{ProperTable}
+use Rattle.tables.specs.declared.Table.{Table}
+use Rattle.tables.specs.Shape.{modeAt}
+use Rattle.tables.specs.Proper.{ProperTable}
 use Rattle.whole.specs.declared.Whole.{Whole}
 use Rattle.run.specs.Plan.{Plan}
 use Rattle.run.specs.Machine as Run

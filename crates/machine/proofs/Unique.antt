@@ -7,7 +7,7 @@ use native.Mathlib.Omega.{arith}
 use lib.Dec.{T}
 use Rattle.numbers.specs.Extreme.{least-unique}
 use Rattle.units.specs.declared.Tick.{Tick}
-use Rattle.graph.specs.declared.shape.Table.{Table}
+use Rattle.tables.specs.declared.Table.{Table}
 use Rattle.whole.specs.declared.Whole.{Whole}
 use Rattle.run.specs.Machine as Run
 use Rattle.planned.specs.Plan.{isListed, planOf}

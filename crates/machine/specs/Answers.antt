@@ -9,7 +9,7 @@ use Rattle.units.specs.Ticks.{tick}
 use Rattle.terms.specs.Refusal.{NO-MODE, NO-PLAN}
 use Rattle.terms.specs.declared.refusal.Place.the-variants.{Nowhere}
 use Rattle.terms.specs.declared.refusal.Refusal.{Refusal}
-use Rattle.graph.specs.declared.shape.Table.{Table}
+use Rattle.tables.specs.declared.Table.{Table}
 use Rattle.whole.specs.declared.Whole.{Whole}
 use Rattle.run.specs.Plan.{Plan}
 use Rattle.run.specs.Machine as Run

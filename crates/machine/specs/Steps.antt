@@ -6,7 +6,7 @@ use Rattle.units.specs.Limits.{MODES, ITERATION-LIMIT, CLOCK-LIMIT}
 use Rattle.units.specs.declared.Tick.{Tick}
 use Rattle.units.specs.Ticks.{tick, greaterTick}
 use Rattle.terms.specs.Place.{placeOf}
-use Rattle.graph.specs.declared.shape.Table.{Table}
+use Rattle.tables.specs.declared.Table.{Table}
 use Rattle.whole.specs.declared.Whole.{Whole}
 use Rattle.whole.specs.Whole.{changeAt}
 use Rattle.planned.specs.Plan.{isListed, partOf}

@@ -1,6 +1,6 @@
 // The modes of a plan, by their numbers.
 use crate::Course;
-use graph::shape::Table;
+use tables::Table;
 use terms::place::number_of;
 use terms::place::place_of;
 use units::limits::MODES;

@@ -12,17 +12,17 @@ use Rattle.units.specs.declared.Tick.{Tick}
 use Rattle.units.specs.Ticks.{tick}
 use Rattle.terms.specs.Refusal.{lineOf, printedOf}
 use Rattle.terms.specs.declared.refusal.Printed.{Printed as Five}
+use Rattle.tables.specs.declared.Mode.{Mode}
+use Rattle.tables.specs.declared.Table.{Table}
+use Rattle.tables.specs.Shape.{modeAt}
+use Rattle.tables.specs.Proper.{ProperMode, ProperTable}
 use Rattle.table.specs.Told.{Outcome, rows, refused, Of, tableOf}
 use Rattle.table.specs.Rows.{Row}
 use Rattle.table.specs.Judge.{readOf}
 use Rattle.table.proofs.Telling.{reads-of}
 use Rattle.table.proofs.Again.{reads-proper}
-use Rattle.graph.specs.declared.shape.Mode.{Mode}
-use Rattle.graph.specs.declared.shape.Table.{Table}
 use Rattle.graph.specs.declared.Verdict.the-variants.{Sound}
 use Rattle.graph.specs.declared.Judgement.{Judgement}
-use Rattle.graph.specs.Shape.{modeAt}
-use Rattle.graph.specs.Proper.{ProperMode, ProperTable}
 use Rattle.graph.specs.Judged.{Judged}
 use Rattle.graph.specs.Judge.{judgeOf}
 use Rattle.graph.proofs.Judging.{judge-judged}

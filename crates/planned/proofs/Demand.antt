@@ -1,6 +1,6 @@
 -- Demand 3, of every table that is planned. Assumes nothing.
-use Rattle.graph.specs.declared.shape.Table.{Table}
-use Rattle.graph.specs.Proper.{ProperTable}
+use Rattle.tables.specs.declared.Table.{Table}
+use Rattle.tables.specs.Proper.{ProperTable}
 use Rattle.whole.specs.declared.Whole.{Whole}
 use Rattle.whole.specs.Whole.{Planned}
 use Rattle.run.specs.Demand.{Demand3}

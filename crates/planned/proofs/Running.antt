@@ -13,9 +13,9 @@ use Rattle.units.specs.Ticks.{tick}
 use Rattle.units.specs.Tokens.{token}
 use Rattle.units.specs.Firings.{firing}
 use Rattle.rate.specs.Rate.{rateOf}
-use Rattle.graph.specs.declared.shape.Mode.{Mode}
-use Rattle.graph.specs.Shape.{channelAt, Active}
-use Rattle.graph.specs.Proper.{ProperMode}
+use Rattle.tables.specs.declared.Mode.{Mode}
+use Rattle.tables.specs.Shape.{channelAt, Active}
+use Rattle.tables.specs.Proper.{ProperMode}
 use Rattle.graph.specs.Balance.{firingsOf}
 use Rattle.channel.specs.declared.End.{End}
 use Rattle.channel.specs.Flow.{ratesOf, cycleTokens, Fed, IsSize, Proper}

@@ -18,9 +18,9 @@ use Rattle.units.specs.Limits.{MODES, ACTORS, PROCESSORS, ITERATION-LIMIT, LOAD
 use Rattle.units.specs.Firings.{firing}
 use Rattle.units.specs.declared.Tick.{Tick}
 use Rattle.units.specs.Ticks.{tick}
-use Rattle.graph.specs.declared.shape.Table.{Table}
-use Rattle.graph.specs.Shape.{modeAt, actorAt}
-use Rattle.graph.specs.Proper.{ProperTable}
+use Rattle.tables.specs.declared.Table.{Table}
+use Rattle.tables.specs.Shape.{modeAt, actorAt}
+use Rattle.tables.specs.Proper.{ProperTable}
 use Rattle.change.specs.declared.Running.{Running}
 use Rattle.change.specs.Change.{Changes, Ready, starts-after, actorIn, askedBy as asks, askedOf as asksOf}
 use Rattle.whole.specs.declared.Whole.{Whole}

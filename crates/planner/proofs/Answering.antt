@@ -6,14 +6,14 @@ use native.Mathlib.Omega.{arith}
 use lib.ListN.{length, replicate}
 use Rattle.units.specs.Limits.{MODES}
 use Rattle.terms.specs.declared.refusal.Refusal.{Refusal}
+use Rattle.tables.specs.declared.Table.{Table}
+use Rattle.tables.specs.Proper.{ProperTable}
+use Rattle.tables.specs.Shape.{modeAt, emptyTable}
 use Rattle.table.specs.declared.Reading.{Reading}
 use Rattle.table.specs.declared.Answer.{Answer as ReadAnswer}
 use Rattle.table.specs.declared.Answer.the-variants.{Read, Refused as NotRead}
 use Rattle.table.specs.Told.{Outcome as Rows, rows, refused as rows-refused, Of, readingOf, Told}
 use Rattle.table.proofs.Again.{told-one}
-use Rattle.graph.specs.declared.shape.Table.{Table}
-use Rattle.graph.specs.Proper.{ProperTable}
-use Rattle.graph.specs.Shape.{modeAt, emptyTable}
 use Rattle.whole.specs.declared.Whole.{Whole}
 use Rattle.whole.specs.declared.Outcome.{Outcome}
 use Rattle.whole.specs.declared.Answer.{Answer as WholeAnswer}

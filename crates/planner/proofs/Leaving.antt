@@ -6,11 +6,11 @@ use Prim.Native.Nat.{ℕ}
 use native.Mathlib.Omega.{arith}
 use lib.ListN.{length}
 use Rattle.numbers.specs.Decides.{Decides, decides-yes, decides-no}
+use Rattle.tables.specs.declared.Table.{Table}
+use Rattle.tables.specs.Proper.{ProperTable}
 use Rattle.table.specs.declared.Reading.{Reading}
 use Rattle.table.specs.Writing.{written}
 use Rattle.table.proofs.Again.{written-reads, reads-proper, told-one}
-use Rattle.graph.specs.declared.shape.Table.{Table}
-use Rattle.graph.specs.Proper.{ProperTable}
 use Rattle.whole.specs.declared.Whole.{Whole}
 use Rattle.whole.specs.Whole.{Planned}
 use Rattle.whole.proofs.Unique.{plan-unique}

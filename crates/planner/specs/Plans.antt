@@ -7,10 +7,10 @@ use lib.ListN.{length}
 use Rattle.terms.specs.Refusal.{NO-PLAN}
 use Rattle.terms.specs.declared.refusal.Place.the-variants.{Nowhere}
 use Rattle.terms.specs.declared.refusal.Refusal.{Refusal}
+use Rattle.tables.specs.declared.Table.{Table}
+use Rattle.tables.specs.Shape.{emptyTable}
 use Rattle.table.specs.declared.Answer.the-variants.{Read, Refused as NotRead}
 use Rattle.table.specs.Told.{Told}
-use Rattle.graph.specs.declared.shape.Table.{Table}
-use Rattle.graph.specs.Shape.{emptyTable}
 use Rattle.whole.specs.declared.Whole.{Whole}
 use Rattle.whole.specs.declared.Answer.the-variants.{Refused as NotPlanned}
 use Rattle.whole.specs.Whole.{emptyWhole, Planned, Planning}

@@ -1,8 +1,8 @@
 // The planner: a table into the caller's words, the plan that words hold, and what is printed of one.
-use graph::shape::Table;
 use layout::WORDS;
 use printer::PRINTED;
-use proper::proper;
+use tables::Table;
+use tables::proper::proper;
 use terms::refusal::NO_PLAN;
 use terms::refusal::Place;
 use terms::refusal::Refusal;
@@ -68,7 +68,7 @@ fn forget() -> Recalled
 {
     Recalled {
         good: false,
-        table: table::empty(),
+        table: tables::empty(),
         whole: whole::empty(),
     }
 }

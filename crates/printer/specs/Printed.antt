@@ -22,12 +22,12 @@ use Rattle.terms.specs.Refusal.{printedOf}
 use Rattle.terms.specs.Text.{bytes}
 use Rattle.terms.specs.declared.refusal.Printed.{Printed}
 use Rattle.terms.specs.declared.refusal.Refusal.{Refusal}
+use Rattle.tables.specs.Shape.{channelAt, modeAt}
+use Rattle.tables.specs.declared.Channel.{Channel}
+use Rattle.tables.specs.declared.Mode.{Mode}
+use Rattle.tables.specs.declared.Table.{Table}
 use Rattle.table.specs.Decimal.{decimal}
 use Rattle.table.specs.Writing.{joined}
-use Rattle.graph.specs.Shape.{channelAt, modeAt}
-use Rattle.graph.specs.declared.shape.Channel.{Channel}
-use Rattle.graph.specs.declared.shape.Mode.{Mode}
-use Rattle.graph.specs.declared.shape.Table.{Table}
 use Rattle.change.specs.declared.Timing.{Timing}
 use Rattle.whole.specs.declared.Part.{Part}
 use Rattle.whole.specs.declared.Whole.{Whole}

@@ -3,7 +3,7 @@ mod bytes;
 mod lines;
 
 use crate::bytes::Five;
-use graph::shape::Table;
+use tables::Table;
 use terms::refusal::Refusal;
 use units::digits;
 use units::limits::ACTORS;

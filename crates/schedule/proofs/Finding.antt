@@ -15,8 +15,8 @@ use Rattle.units.specs.Bounds.{MOST-WAIT}
 use Rattle.units.specs.Limits.{ACTORS, CHANNELS}
 use Rattle.units.specs.declared.Tick.{Tick}
 use Rattle.units.specs.Ticks.{tick, greaterTick}
-use Rattle.graph.specs.declared.shape.Mode.{Mode}
-use Rattle.graph.specs.Shape.{channelAt}
+use Rattle.tables.specs.declared.Mode.{Mode}
+use Rattle.tables.specs.Shape.{channelAt}
 use Rattle.graph.specs.Judged.{ofActors}
 use Rattle.channel.specs.Flow.{Fed}
 use Rattle.channel.specs.Laws.{cycle-p, cycle-c, period-p, start-within, fed-later, fed-earlier}

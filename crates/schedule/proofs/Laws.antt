@@ -6,11 +6,11 @@ use native.Mathlib.Omega.{arith}
 use Rattle.units.specs.Bounds.{MOST-WAIT, MOST-START}
 use Rattle.units.specs.Limits.{ACTORS}
 use Rattle.units.specs.declared.Tick.{Tick}
-use Rattle.graph.specs.declared.shape.Mode.{Mode}
+use Rattle.tables.specs.declared.Mode.{Mode}
+use Rattle.tables.specs.Shape.{Active}
+use Rattle.tables.specs.Proper.{ProperMode}
 use Rattle.graph.specs.declared.Verdict.the-variants.{Sound as IsSound}
 use Rattle.graph.specs.declared.Judgement.{Judgement}
-use Rattle.graph.specs.Shape.{Active}
-use Rattle.graph.specs.Proper.{ProperMode}
 use Rattle.graph.specs.Judged.{Judged}
 use Rattle.schedule.specs.Starts.{Starts}
 use Rattle.schedule.specs.Reached.{startAt, Reached}

@@ -17,11 +17,11 @@ use Rattle.numbers.specs.Tab.{length-tab, getD-tab}
 use Rattle.units.specs.Limits.{ACTORS, CHANNELS}
 use Rattle.units.specs.declared.Tick.{Tick}
 use Rattle.units.specs.Tokens.{token}
-use Rattle.graph.specs.declared.shape.Mode.{Mode}
+use Rattle.tables.specs.declared.Mode.{Mode}
+use Rattle.tables.specs.Shape.{channelAt}
+use Rattle.tables.specs.Proper.{ProperMode}
 use Rattle.graph.specs.declared.Verdict.the-variants.{Sound as IsSound}
 use Rattle.graph.specs.declared.Judgement.{Judgement}
-use Rattle.graph.specs.Shape.{channelAt}
-use Rattle.graph.specs.Proper.{ProperMode}
 use Rattle.graph.specs.Judged.{Judged}
 use Rattle.channel.specs.Laws.{start-least, size-greatest}
 use Rattle.schedule.specs.Starts.{producerOf, consumerOf, Late}

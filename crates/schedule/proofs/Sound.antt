@@ -21,12 +21,12 @@ use Rattle.units.specs.Ticks.{tick, timesTicks}
 use Rattle.units.specs.Firings.{firing}
 use Rattle.period.specs.Period.{periodOf}
 use Rattle.rate.specs.Rate.{rateOf, rate-in}
-use Rattle.graph.specs.declared.shape.Mode.{Mode}
+use Rattle.tables.specs.declared.Mode.{Mode}
+use Rattle.tables.specs.Shape.{actorAt, channelAt, Active}
+use Rattle.tables.specs.Proper.{ProperMode, ProperRates}
 use Rattle.graph.specs.declared.Verdict.{Verdict}
 use Rattle.graph.specs.declared.Verdict.the-variants.{Cyclic as IsCyclic, Ends as HasNoEnds, Unbalanced as IsUnbalanced, Overloaded as IsOverloaded, Sound as IsSound}
 use Rattle.graph.specs.declared.Judgement.{Judgement}
-use Rattle.graph.specs.Shape.{actorAt, channelAt, Active}
-use Rattle.graph.specs.Proper.{ProperMode, ProperRates}
 use Rattle.graph.specs.Order.{Cyclic}
 use Rattle.graph.specs.Balance.{firingsOf}
 use Rattle.graph.specs.Judged.{ofActors, Numbers, Judged, cyclic, no-ends, unbalanced, overloaded, sound}

@@ -11,9 +11,9 @@ use Rattle.units.specs.declared.Tick.{Tick}
 use Rattle.units.specs.declared.Token.{Token}
 use Rattle.units.specs.Ticks.{tick, greaterTick}
 use Rattle.units.specs.Tokens.{token}
-use Rattle.graph.specs.declared.shape.Mode.{Mode}
+use Rattle.tables.specs.declared.Mode.{Mode}
+use Rattle.tables.specs.Shape.{channelAt}
 use Rattle.graph.specs.declared.Judgement.{Judgement}
-use Rattle.graph.specs.Shape.{channelAt}
 use Rattle.channel.specs.Phases.{startOf, sizeOf}
 use Rattle.schedule.specs.declared.Timing.the-variants.{OnTime}
 use Rattle.schedule.specs.declared.Timetable.{Timetable}

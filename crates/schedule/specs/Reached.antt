@@ -9,9 +9,9 @@ use Rattle.units.specs.Bounds.{MOST-WAIT, MOST-START}
 use Rattle.units.specs.Limits.{ACTORS, CHANNELS}
 use Rattle.units.specs.declared.Tick.{Tick}
 use Rattle.units.specs.Ticks.{tick}
-use Rattle.graph.specs.declared.shape.Mode.{Mode}
-use Rattle.graph.specs.Shape.{channelAt, Active}
-use Rattle.graph.specs.Proper.{ProperMode}
+use Rattle.tables.specs.declared.Mode.{Mode}
+use Rattle.tables.specs.Shape.{channelAt, Active}
+use Rattle.tables.specs.Proper.{ProperMode}
 use Rattle.channel.specs.Flow.{Fed, Paced}
 use Rattle.schedule.specs.declared.Timing.{Timing}
 use Rattle.schedule.specs.declared.Timing.the-variants.{Late as IsLate, OnTime}

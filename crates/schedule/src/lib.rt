@@ -3,14 +3,14 @@ mod rooms;
 mod starts;
 
 use graph::Judgement;
-use graph::shape::Mode;
+use tables::Mode;
 use units::Tick;
 use units::Token;
 use units::limits::ACTORS;
 use units::limits::CHANNELS;
 ghost use mathlib.Core.Path.{_≡_};
+ghost use Rattle.tables.specs.Proper.{ProperMode};
 ghost use Rattle.graph.specs.declared.Verdict.the-variants.{Sound};
-ghost use Rattle.graph.specs.Proper.{ProperMode};
 ghost use Rattle.graph.specs.Judged.{Judged};
 ghost use Rattle.schedule.specs.Scheduled.{lateBy, Scheduled};
 

@@ -1,9 +1,9 @@
 // The room that each channel of a mode needs, and its tokens.
 use channel::End;
 use channel::size;
-use graph::shape::Actor;
-use graph::shape::Channel;
-use graph::shape::Mode;
+use tables::Actor;
+use tables::Channel;
+use tables::Mode;
 use units::Firing;
 use units::Tick;
 use units::Token;
@@ -17,7 +17,7 @@ ghost use Rattle.units.specs.Bounds.{MOST-CYCLES, MOST-START};
 ghost use Rattle.units.specs.Limits.{PHASES};
 ghost use Rattle.units.specs.Tokens.{token};
 ghost use Rattle.rate.specs.Rate.{tokensOf};
-ghost use Rattle.graph.specs.Proper.{ProperMode};
+ghost use Rattle.tables.specs.Proper.{ProperMode};
 ghost use Rattle.graph.specs.Lengths.{Few};
 ghost use Rattle.channel.specs.Flow.{Fed, IsSize, Paced};
 ghost use Rattle.schedule.specs.Starts.{givesOf, takesOf};

@@ -4,8 +4,8 @@ use mathlib.Core.List.{List}
 use Prim.Native.Nat.{ℕ}
 use native.Mathlib.Omega.{arith}
 use Rattle.terms.specs.declared.refusal.Place.the-variants.{Row as AtRow}
-use Rattle.graph.specs.declared.shape.Table.{Table}
-use Rattle.graph.specs.Proper.{ProperTable}
+use Rattle.tables.specs.declared.Table.{Table}
+use Rattle.tables.specs.Proper.{ProperTable}
 use Rattle.table.specs.declared.Answer.the-variants.{Read, Refused}
 use Rattle.table.specs.declared.Reading.{Reading}
 use Rattle.table.specs.Rows.{Row}

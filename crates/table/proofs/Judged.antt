@@ -13,9 +13,9 @@ use borrow.Author.Tests.{eqb-true, eqb-false, leb-true, leb-false}
 use Rattle.numbers.specs.Every.{Every}
 use Rattle.numbers.specs.Bits.{hasb}
 use Rattle.units.specs.Limits.{MODES, ACTORS, CHANNELS, PHASES}
-use Rattle.graph.specs.declared.shape.Actor.{Actor}
-use Rattle.graph.specs.declared.shape.Mode.{Mode}
-use Rattle.graph.specs.Shape.{actorAt, modeAt}
+use Rattle.tables.specs.declared.Actor.{Actor}
+use Rattle.tables.specs.declared.Mode.{Mode}
+use Rattle.tables.specs.Shape.{actorAt, modeAt}
 use Rattle.table.specs.Rows.{Row, actor, channel, Between, InRange, Lists, Listed, Unfit, Refused3, Refused4, Refused5, Passes}
 use Rattle.table.specs.Told.{padded, tableOf}
 use Rattle.table.specs.Digits.{rates, ratesIn}

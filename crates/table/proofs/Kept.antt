@@ -11,13 +11,13 @@ use lib.Seq.{getD-set-same}
 use Rattle.numbers.specs.Every.{Every}
 use Rattle.numbers.specs.Bits.{bit, Has, has-adding, has-or-not}
 use Rattle.units.specs.Limits.{MODES, ACTORS, CHANNELS, PHASES, MOST-RATE}
-use Rattle.graph.specs.declared.shape.Actor.{Actor}
-use Rattle.graph.specs.declared.shape.Channel.{Channel}
-use Rattle.graph.specs.declared.shape.Mode.{Mode}
-use Rattle.graph.specs.declared.shape.Table.{Table}
-use Rattle.graph.specs.Shape.{noActor, emptyMode, emptyTable, actorAt, modeAt, withActor, withChannel, withMode}
-use Rattle.graph.specs.Proper.{ProperRates, ProperMode, ProperTable}
-use Rattle.graph.specs.Grown.{empty-proper, aside, actor-mode, channel-mode}
+use Rattle.tables.specs.declared.Actor.{Actor}
+use Rattle.tables.specs.declared.Channel.{Channel}
+use Rattle.tables.specs.declared.Mode.{Mode}
+use Rattle.tables.specs.declared.Table.{Table}
+use Rattle.tables.specs.Shape.{noActor, emptyMode, emptyTable, actorAt, modeAt, withActor, withChannel, withMode}
+use Rattle.tables.specs.Proper.{ProperRates, ProperMode, ProperTable}
+use Rattle.tables.specs.Grown.{empty-proper, aside, actor-mode, channel-mode}
 use Rattle.table.specs.Rows.{Row, actor, channel, Between, Rates, InRange, Lists, Listed, channels, Unfit, Passes}
 use Rattle.table.specs.Told.{padded, listing, tableOf}
 use Rattle.table.proofs.Lookup.{Passed, start, then, Sized, Holds, holds, mode-same, mode-other, empty-mode}

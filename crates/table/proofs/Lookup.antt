@@ -12,10 +12,10 @@ use lib.Seq.{getD-set-same, getD-set-other}
 use borrow.Author.Tests.{eq-eqb, ne-eqb}
 use Rattle.numbers.specs.Bits.{Has, has-adding, bit-zero}
 use Rattle.units.specs.Limits.{MODES, ACTORS, CHANNELS}
-use Rattle.graph.specs.declared.shape.Actor.{Actor}
-use Rattle.graph.specs.declared.shape.Mode.{Mode}
-use Rattle.graph.specs.declared.shape.Table.{Table}
-use Rattle.graph.specs.Shape.{noActor, noMode, emptyChannel, emptyMode, emptyTable, actorAt, modeAt, withActor, withChannel, withMode}
+use Rattle.tables.specs.declared.Actor.{Actor}
+use Rattle.tables.specs.declared.Mode.{Mode}
+use Rattle.tables.specs.declared.Table.{Table}
+use Rattle.tables.specs.Shape.{noActor, noMode, emptyChannel, emptyMode, emptyTable, actorAt, modeAt, withActor, withChannel, withMode}
 use Rattle.table.specs.Rows.{Row, actor, channel, Between, InRange, Lists, Listed, channels, Passes}
 use Rattle.table.specs.Told.{padded, listing, tableOf}
 

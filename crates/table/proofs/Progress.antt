@@ -10,9 +10,9 @@ use lib.Seq.{set-getD}
 use borrow.Author.Tests.{eq-eqb, ne-eqb, lt-ltb, le-ltb, leb-false}
 use Rattle.numbers.specs.Bits.{hasb}
 use Rattle.units.specs.Limits.{MODES, ACTORS, MOST-BYTES, CHANNELS}
-use Rattle.graph.specs.declared.shape.Table.{Table}
-use Rattle.graph.specs.declared.shape.Mode.{Mode}
-use Rattle.graph.specs.Shape.{modeAt, actorAt, emptyTable, withMode, withActor, withChannel}
+use Rattle.tables.specs.declared.Table.{Table}
+use Rattle.tables.specs.declared.Mode.{Mode}
+use Rattle.tables.specs.Shape.{modeAt, actorAt, emptyTable, withMode, withActor, withChannel}
 use Rattle.table.specs.declared.Reading.{Reading}
 use Rattle.table.specs.declared.record.Record.{Record}
 use Rattle.table.specs.declared.row.Kind.{Kind}

@@ -17,12 +17,12 @@ use borrow.Author.Tests.{eqb-true, eqb-false, eq-eqb, ne-eqb}
 use Rattle.numbers.specs.Every.{Every}
 use Rattle.numbers.specs.Bits.{bit, Has, adding, has-adding, has-or-not, bit-zero, bit-ext}
 use Rattle.units.specs.Limits.{MODES, ACTORS, CHANNELS, PHASES, MOST-RATE}
-use Rattle.graph.specs.declared.shape.Actor.{Actor}
-use Rattle.graph.specs.declared.shape.Channel.{Channel}
-use Rattle.graph.specs.declared.shape.Mode.{Mode}
-use Rattle.graph.specs.declared.shape.Table.{Table}
-use Rattle.graph.specs.Shape.{noActor, noChannel, noMode, emptyChannel, emptyMode, actorAt, channelAt, modeAt, withActor, withChannel, withMode}
-use Rattle.graph.specs.Proper.{ProperRates, ProperChannel, ProperMode, ProperTable}
+use Rattle.tables.specs.declared.Actor.{Actor}
+use Rattle.tables.specs.declared.Channel.{Channel}
+use Rattle.tables.specs.declared.Mode.{Mode}
+use Rattle.tables.specs.declared.Table.{Table}
+use Rattle.tables.specs.Shape.{noActor, noChannel, noMode, emptyChannel, emptyMode, actorAt, channelAt, modeAt, withActor, withChannel, withMode}
+use Rattle.tables.specs.Proper.{ProperRates, ProperChannel, ProperMode, ProperTable}
 use Rattle.table.specs.Rows.{Row, actor, channel, Between, Rates, InRange, Lists, Listed, channels, Unfit, Refused3, Refused5, Passes}
 use Rattle.table.specs.Told.{padded, listing, tableOf}
 use Rattle.table.specs.Writing.{actorRow, channelRow, actorRows, channelRows, modeRows, rowsOf}

@@ -10,10 +10,10 @@ use lib.ListN.{length, take, length-take, length-append}
 use borrow.Author.Tests.{ltb-false, eqb-true}
 use Rattle.numbers.specs.Bits.{bit}
 use Rattle.units.specs.Limits.{MOST-BYTES, MODES, ACTORS, CHANNELS, PHASES}
-use Rattle.graph.specs.declared.shape.Mode.{Mode}
-use Rattle.graph.specs.declared.shape.Table.{Table}
-use Rattle.graph.specs.Shape.{actorAt, channelAt, modeAt}
-use Rattle.graph.specs.Proper.{ProperMode, ProperTable}
+use Rattle.tables.specs.declared.Mode.{Mode}
+use Rattle.tables.specs.declared.Table.{Table}
+use Rattle.tables.specs.Shape.{actorAt, channelAt, modeAt}
+use Rattle.tables.specs.Proper.{ProperMode, ProperTable}
 use Rattle.table.specs.Decimal.{decimalFrom, decimal, spaced}
 use Rattle.table.specs.Rows.{Row, actor, channel, Rates, InRange, contents}
 use Rattle.table.specs.Writing.{joined, lineText, textOf, actorRow, channelRow, actorRows, channelRows, modeRows, rowsOf}

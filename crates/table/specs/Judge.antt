@@ -7,10 +7,10 @@ use lib.ListN.{length, getD, set, replicate}
 use Rattle.numbers.specs.Bits.{hasb}
 use Rattle.units.specs.Limits.{MODES, ACTORS, CHANNELS, PHASES, MOST-BYTES, MOST-WCET, PROCESSORS, FIELDS}
 use Rattle.terms.specs.Refusal.{UNREADABLE, BAD-FIELD, MISLISTED, ELSEWHERE, BAD-RATES}
-use Rattle.graph.specs.declared.shape.Actor.{Actor as Stage}
-use Rattle.graph.specs.declared.shape.Channel.{Channel as Way}
-use Rattle.graph.specs.declared.shape.Mode.{Mode}
-use Rattle.graph.specs.Shape.{noActor, modeAt, withActor, withChannel}
+use Rattle.tables.specs.declared.Actor.{Actor as Stage}
+use Rattle.tables.specs.declared.Channel.{Channel as Way}
+use Rattle.tables.specs.declared.Mode.{Mode}
+use Rattle.tables.specs.Shape.{noActor, modeAt, withActor, withChannel}
 use Rattle.table.specs.declared.row.Kind.{Kind}
 use Rattle.table.specs.declared.row.Kind.the-variants.{Actor, Channel, Bad}
 use Rattle.table.specs.declared.row.Line.{Line}

@@ -7,8 +7,8 @@ use lib.ListN.{length, take, replicate}
 use Rattle.units.specs.Limits.{MOST-BYTES, PHASES, FIELDS}
 use Rattle.terms.specs.Refusal.{UNREADABLE, BAD-FIELD, MISLISTED, ELSEWHERE, BAD-RATES}
 use Rattle.terms.specs.declared.refusal.Place.the-variants.{Row as AtRow}
-use Rattle.graph.specs.declared.shape.Table.{Table}
-use Rattle.graph.specs.Shape.{modeAt, emptyTable, withActor, withChannel, withMode}
+use Rattle.tables.specs.declared.Table.{Table}
+use Rattle.tables.specs.Shape.{modeAt, emptyTable, withActor, withChannel, withMode}
 use Rattle.table.specs.declared.Answer.the-variants.{Read, Refused}
 use Rattle.table.specs.declared.Reading.{Reading}
 use Rattle.table.specs.Grammar.{Begins}

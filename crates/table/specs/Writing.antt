@@ -6,11 +6,11 @@ use lib.Dec.{eqb}
 use lib.ListN.{take}
 use Rattle.numbers.specs.Bits.{bit}
 use Rattle.units.specs.Limits.{MODES, ACTORS}
-use Rattle.graph.specs.declared.shape.Channel.{Channel}
-use Rattle.graph.specs.declared.shape.Actor.{Actor}
-use Rattle.graph.specs.declared.shape.Mode.{Mode}
-use Rattle.graph.specs.declared.shape.Table.{Table}
-use Rattle.graph.specs.Shape.{actorAt, channelAt, modeAt}
+use Rattle.tables.specs.declared.Channel.{Channel}
+use Rattle.tables.specs.declared.Actor.{Actor}
+use Rattle.tables.specs.declared.Mode.{Mode}
+use Rattle.tables.specs.declared.Table.{Table}
+use Rattle.tables.specs.Shape.{actorAt, channelAt, modeAt}
 use Rattle.table.specs.Rows.{Row, actor, channel, contents}
 
 -- the contents of some fields, parted by commas

@@ -3,7 +3,6 @@ ghost use mathlib.Core.Path.{_≡_};
 ghost use Prim.Native.Nat.{_≤_, _<_};
 ghost use lib.ListN.{length};
 ghost use Rattle.units.specs.Limits.{MOST-BYTES};
-ghost use Rattle.graph.specs.Shape.{emptyTable};
 ghost use Rattle.table.specs.Told.{Told, readingOf, refused as refusedAt};
 
 pub mod bytes;
@@ -12,7 +11,7 @@ mod rates;
 mod record;
 mod row;
 
-use graph::shape::Table;
+use tables::Table;
 use terms::refusal::Place;
 use terms::refusal::Refusal;
 use terms::refusal::UNREADABLE;
@@ -36,15 +35,8 @@ fn refused(number: u64, row: u64) -> Reading
     let place = Place::Row(row);
     Reading {
         answer: Answer::Refused(Refusal { number, place }),
-        table: row::nothing(),
+        table: tables::empty(),
     }
-}
-
-// A table in which nothing is listed.
-pub fn empty() -> Table
-    ensures { λ r. ⌜ r ≡ emptyTable ⌝ }
-{
-    row::nothing()
 }
 
 // Reads the rows of a text.
@@ -52,7 +44,7 @@ fn rows(text: &[u8]) -> Reading
     requires { ⌜ (0 < length (now text)) × (length (now text) ≤ MOST-BYTES) ⌝ }
     ensures { λ r. ⌜ Told (now (text .entry)) r ⌝ }
 {
-    let mut table = row::nothing();
+    let mut table = tables::empty();
     let mut homes = [0usize; ACTORS];
     let mut at: usize = 0;
     let mut row: u64 = 0;

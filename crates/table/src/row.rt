@@ -4,7 +4,7 @@ ghost use mathlib.Core.List.{map};
 ghost use Prim.Native.Nat.{_^_, _<_};
 ghost use Rattle.numbers.specs.Every.{Every};
 ghost use Rattle.units.specs.Limits.{ACTORS as ACTORS-LIMIT};
-ghost use Rattle.graph.specs.Shape.{noActor as noActorOf, emptyTable};
+ghost use Rattle.tables.specs.Shape.{noActor as noActorOf};
 ghost use Rattle.table.specs.Scan.{InText, bytesOf};
 ghost use Rattle.table.specs.Digits.{numberOf, ratesOf, ratesIn};
 ghost use Rattle.table.specs.Judge.{kindOf, actorOf, channelOf, parsedOf, lineOf, none as noRow, suitsb, actorListed, channelListed, refusalOf, actorb, wayOf};
@@ -16,10 +16,8 @@ use crate::rates::Rates;
 use crate::rates::rates_of;
 use crate::record::Cell;
 use crate::record::Record;
-use graph::shape::Actor;
-use graph::shape::Channel;
-use graph::shape::Mode;
-use graph::shape::Table;
+use tables::Actor;
+use tables::Channel;
 use terms::refusal::BAD_FIELD;
 use terms::refusal::BAD_RATES;
 use terms::refusal::ELSEWHERE;
@@ -56,26 +54,6 @@ fn no_actor() -> Actor
         phases: 0,
         wcet: Tick::NONE,
         processor: 0,
-    }
-}
-
-pub(crate) fn nothing() -> Table
-    ensures { λ r. ⌜ r ≡ emptyTable ⌝ }
-{
-    let way = Channel {
-        from: 0,
-        to: 0,
-        production: [0; PHASES],
-        consumption: [0; PHASES],
-    };
-    let mode = Mode {
-        active: 0,
-        count: 0,
-        actors: [no_actor(); ACTORS],
-        channels: [way; CHANNELS],
-    };
-    Table {
-        modes: [mode; MODES],
     }
 }
 

@@ -24,10 +24,10 @@ use Rattle.units.specs.Tokens.{token}
 use Rattle.units.specs.Firings.{firing}
 use Rattle.period.specs.Period.{periodOf}
 use Rattle.rate.specs.Rate.{rateOf}
-use Rattle.graph.specs.declared.shape.Mode.{Mode}
-use Rattle.graph.specs.declared.shape.Table.{Table}
-use Rattle.graph.specs.Shape.{modeAt, channelAt, Active}
-use Rattle.graph.specs.Proper.{ProperMode, ProperRates, ProperTable}
+use Rattle.tables.specs.declared.Mode.{Mode}
+use Rattle.tables.specs.declared.Table.{Table}
+use Rattle.tables.specs.Shape.{modeAt, channelAt, Active}
+use Rattle.tables.specs.Proper.{ProperMode, ProperRates, ProperTable}
 use Rattle.graph.specs.Balance.{firingsOf}
 use Rattle.graph.specs.Judged.{ofActors}
 use Rattle.graph.specs.Laws.{iteration-pos, firings-divide}

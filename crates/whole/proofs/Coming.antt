@@ -8,10 +8,10 @@ use lib.ListN.{getD}
 use Rattle.numbers.specs.Tab.{getD-tab}
 use Rattle.units.specs.Limits.{MODES}
 use Rattle.terms.specs.declared.refusal.Refusal.{Refusal}
-use Rattle.graph.specs.declared.shape.Mode.{Mode}
-use Rattle.graph.specs.declared.shape.Table.{Table}
-use Rattle.graph.specs.Shape.{modeAt}
-use Rattle.graph.specs.Proper.{ProperTable}
+use Rattle.tables.specs.declared.Mode.{Mode}
+use Rattle.tables.specs.declared.Table.{Table}
+use Rattle.tables.specs.Shape.{modeAt}
+use Rattle.tables.specs.Proper.{ProperTable}
 use Rattle.change.specs.declared.Running.{Running}
 use Rattle.change.specs.declared.Timing.{Timing}
 use Rattle.whole.specs.declared.Part.{Part}

@@ -13,12 +13,12 @@ use Rattle.units.specs.Limits.{MODES, LOAD-LIMIT}
 use Rattle.units.specs.Ticks.{greaterTick}
 use Rattle.terms.specs.declared.refusal.Refusal.{Refusal}
 use Rattle.terms.specs.Place.{numberOf}
-use Rattle.graph.specs.declared.shape.Mode.{Mode}
-use Rattle.graph.specs.declared.shape.Table.{Table}
+use Rattle.tables.specs.declared.Mode.{Mode}
+use Rattle.tables.specs.declared.Table.{Table}
+use Rattle.tables.specs.Shape.{modeAt}
+use Rattle.tables.specs.Proper.{ProperMode, ProperTable}
 use Rattle.graph.specs.declared.Verdict.{Verdict}
 use Rattle.graph.specs.declared.Verdict.the-variants.{Cyclic, Ends, Unbalanced, Overloaded, Sound}
-use Rattle.graph.specs.Shape.{modeAt}
-use Rattle.graph.specs.Proper.{ProperMode, ProperTable}
 use Rattle.graph.specs.Judge.{judgeOf}
 use Rattle.graph.proofs.Judging.{judge-judged}
 use Rattle.schedule.specs.declared.Timing.{Timing as Answer}

@@ -22,10 +22,10 @@ use Rattle.units.specs.Ticks.{tick}
 use Rattle.units.specs.Firings.{firing}
 use Rattle.period.specs.Period.{periodOf, partOf}
 use Rattle.terms.specs.Place.{numberOf}
-use Rattle.graph.specs.declared.shape.Mode.{Mode}
-use Rattle.graph.specs.declared.shape.Table.{Table}
-use Rattle.graph.specs.Shape.{modeAt, actorAt, Active, noActor}
-use Rattle.graph.specs.Proper.{ProperMode, ProperTable}
+use Rattle.tables.specs.declared.Mode.{Mode}
+use Rattle.tables.specs.declared.Table.{Table}
+use Rattle.tables.specs.Shape.{modeAt, actorAt, Active, noActor}
+use Rattle.tables.specs.Proper.{ProperMode, ProperTable}
 use Rattle.graph.specs.Balance.{firingsOf}
 use Rattle.graph.specs.Load.{Overloaded, askedBy, loadOf}
 use Rattle.graph.specs.Judged.{ofActors}

@@ -3,7 +3,7 @@ use mathlib.Core.Path.{_≡_, sym, ap, subst, _∙_}
 use Prim.Native.Nat.{ℕ, _<_}
 use Rattle.units.specs.Limits.{ACTORS, PROCESSORS}
 use Rattle.units.specs.declared.Tick.{Tick}
-use Rattle.graph.specs.declared.shape.Mode.{Mode}
+use Rattle.tables.specs.declared.Mode.{Mode}
 use Rattle.graph.specs.declared.Verdict.{Verdict}
 use Rattle.graph.specs.declared.Verdict.the-variants.{Cyclic as IsCyclic, Ends as HasNoEnds, Unbalanced as IsUnbalanced, Overloaded as IsOverloaded, Sound as IsSound}
 use Rattle.graph.specs.declared.Judgement.{Judgement}

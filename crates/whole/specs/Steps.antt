@@ -8,9 +8,9 @@ use Rattle.numbers.specs.Tab.{tab}
 use Rattle.units.specs.Ticks.{tick}
 use Rattle.units.specs.Limits.{MODES}
 use Rattle.terms.specs.Place.{numberOf}
-use Rattle.graph.specs.declared.shape.Mode.{Mode}
-use Rattle.graph.specs.declared.shape.Table.{Table}
-use Rattle.graph.specs.Shape.{modeAt, emptyMode}
+use Rattle.tables.specs.declared.Mode.{Mode}
+use Rattle.tables.specs.declared.Table.{Table}
+use Rattle.tables.specs.Shape.{modeAt, emptyMode}
 use Rattle.change.specs.declared.Running.{Running}
 use Rattle.change.specs.declared.Timing.{Timing}
 use Rattle.change.specs.Change.{Ready, Changes}

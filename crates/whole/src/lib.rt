@@ -3,7 +3,7 @@ mod changes;
 mod modes;
 
 use change::Timing;
-use graph::shape::Table;
+use tables::Table;
 use terms::refusal::Refusal;
 use units::Firing;
 use units::Tick;
@@ -12,7 +12,7 @@ use units::limits::ACTORS;
 use units::limits::CHANNELS;
 use units::limits::MODES;
 ghost use mathlib.Core.Path.{_≡_};
-ghost use Rattle.graph.specs.Proper.{ProperTable};
+ghost use Rattle.tables.specs.Proper.{ProperTable};
 ghost use Rattle.whole.specs.Whole.{emptyWhole, Planning};
 ghost use Rattle.whole.specs.declared.Answer.the-variants.{Refused};
 

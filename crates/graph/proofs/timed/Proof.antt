@@ -11,7 +11,7 @@ use Rattle.units.specs.declared.Firing.{Firing}
 use Rattle.units.specs.Limits.{PROCESSORS}
 use Rattle.units.specs.Limits.{PROCESSORS}
 use Rattle.period.specs.declared.Length.the-variants.{Is}
-use Rattle.graph.specs.declared.shape.Mode.{Mode}
+use Rattle.tables.specs.declared.Mode.{Mode}
 use Rattle.graph.specs.declared.Verdict.the-variants.{Overloaded, Sound}
 use Rattle.graph.specs.Judged.{refusedBy}
 use Rattle.graph.specs.Laws.{iteration-pos}

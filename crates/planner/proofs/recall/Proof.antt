@@ -6,7 +6,7 @@ use mathlib.Core.List.{List}
 use Prim.Native.Nat.{ℕ}
 use denote.Ref.{now}
 use Rattle.numbers.specs.Decides.{decides-true, decides-false}
-use Rattle.graph.specs.Proper.{ProperTable}
+use Rattle.tables.specs.Proper.{ProperTable}
 use Rattle.whole.specs.declared.Whole.{Whole}
 use Rattle.whole.specs.Whole.{Planned}
 use Rattle.whole.proofs.Unique.{plan-unique}

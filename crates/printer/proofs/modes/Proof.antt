@@ -3,7 +3,7 @@ use borrow.Author.Needs.{needs}
 use Prim.Native.Nat.{_-_, _≤_}
 use native.Mathlib.Omega.{arith}
 use Rattle.units.specs.Limits.{MODES}
-use Rattle.graph.specs.Shape.{modeAt}
+use Rattle.tables.specs.Shape.{modeAt}
 use Rattle.whole.specs.Whole.{partAt}
 use Rattle.printer.specs.Laid.{Laid, texts}
 use Rattle.printer.specs.Printed.{modeText}

@@ -5,7 +5,7 @@ use native.Mathlib.Omega.{arith}
 use lib.ListN.{length-map}
 use Rattle.numbers.specs.Tab.{length-tab}
 use Rattle.units.specs.Limits.{MODES}
-use Rattle.graph.specs.Shape.{modeAt}
+use Rattle.tables.specs.Shape.{modeAt}
 use Rattle.printer.specs.Laid.{Room, Laid}
 use Rattle.printer.specs.Printed.{planText, changesText, activeOf}
 use Rattle.printer.proofs.Laying.{laid-then, room-first, room-then, room-end, shown}

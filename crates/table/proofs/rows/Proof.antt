@@ -9,9 +9,9 @@ use lib.ListN.{length, getD, set}
 use lib.Seq.{set-getD}
 use Rattle.numbers.specs.Bits.{with-is}
 use Rattle.units.specs.Limits.{CHANNELS}
-use Rattle.graph.specs.declared.shape.Mode.{Mode}
-use Rattle.graph.specs.declared.shape.Table.{Table}
-use Rattle.graph.specs.Shape.{modeAt, withMode, withChannel}
+use Rattle.tables.specs.declared.Mode.{Mode}
+use Rattle.tables.specs.declared.Table.{Table}
+use Rattle.tables.specs.Shape.{modeAt, withMode, withChannel}
 use Rattle.table.specs.declared.Answer.the-variants.{Read}
 use Rattle.table.specs.declared.record.Record.{Record}
 use Rattle.table.specs.declared.row.Line.{Line}
@@ -32,7 +32,7 @@ unfolding homesOf
 loop-holds c =
     let start = c .before .before in
     let text = start .args .text .now in
-    subst (λ (t : Table). Progress text t _ 0 0) (sym (c .nothing .ensures))
+    subst (λ (t : Table). Progress text t _ 0 0) (sym (c .empty .ensures))
     (progress-none text _ (λ e. omega (arith, start .pre .0)) (start .pre .1) refl)
 
 -- the place is in the text

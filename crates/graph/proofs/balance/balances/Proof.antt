@@ -9,9 +9,9 @@ use lib.ListN.{getD}
 use Rattle.numbers.specs.All.{Below}
 use Rattle.numbers.specs.Decides.{Decides, decides-unique, decides-yes, decides-no, decides-true, decides-false}
 use Rattle.units.specs.Tokens.{timesTokens}
+use Rattle.tables.specs.Shape.{channelAt}
+use Rattle.tables.specs.Proper.{ProperChannel}
 use Rattle.graph.specs.declared.balance.Flow.{Flow}
-use Rattle.graph.specs.Shape.{channelAt}
-use Rattle.graph.specs.Proper.{ProperChannel}
 use Rattle.graph.specs.Counts.{FlowIn}
 use Rattle.graph.proofs.Flows.{Even, balances-decides, flow-in, tokens-fit}
 use Rattle.graph.proofs.balance.balances.Statement.{statement}

@@ -9,11 +9,11 @@ use lib.ListN.{getD}
 use Rattle.numbers.specs.Bits.{has-is}
 use Rattle.numbers.specs.Decides.{decides-true}
 use Rattle.units.specs.Limits.{ACTORS}
-use Rattle.graph.specs.declared.shape.Mode.{Mode}
+use Rattle.tables.specs.declared.Mode.{Mode}
+use Rattle.tables.specs.Shape.{actorAt, channelAt, Active}
+use Rattle.tables.specs.Proper.{ProperMode, ProperChannel}
 use Rattle.graph.specs.declared.balance.Counts.{Counts}
 use Rattle.graph.specs.declared.balance.Flow.{Flow}
-use Rattle.graph.specs.Shape.{actorAt, channelAt, Active}
-use Rattle.graph.specs.Proper.{ProperMode, ProperChannel}
 use Rattle.graph.specs.Counts.{flowBetween, flowOf, fedOf, countsFrom}
 use Rattle.graph.proofs.Flows.{counts-next, counts-small, flow-in}
 use Rattle.graph.proofs.balance.counts_of.Statement.{statement}

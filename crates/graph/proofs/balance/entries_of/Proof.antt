@@ -3,7 +3,7 @@ use mathlib.Core.Path.{_≡_, refl, sym, _∙_}
 use Prim.Native.Nat.{_-_, _≤_, _<_}
 use native.Mathlib.Omega.{arith}
 use Rattle.units.specs.Limits.{ACTORS}
-use Rattle.graph.specs.Shape.{channelAt}
+use Rattle.tables.specs.Shape.{channelAt}
 use Rattle.graph.specs.Counts.{entriesFrom, entriesOf}
 use Rattle.graph.proofs.Entries.{entries-next}
 use Rattle.graph.proofs.balance.entries_of.Statement.{statement}

@@ -8,7 +8,7 @@ use Rattle.numbers.specs.Filled.{FilledBy, filled-none, filled-set, filled-all}
 use Rattle.units.specs.Limits.{ACTORS}
 use Rattle.units.specs.Firings.{firing}
 use Rattle.rate.specs.Rate.{cyclesOf}
-use Rattle.graph.specs.Shape.{noActor}
+use Rattle.tables.specs.Shape.{noActor}
 use Rattle.graph.proofs.iteration.firings_of.Statement.{statement}
 use Rattle.graph.proofs.iteration.firings_of.Tie as tie
 

@@ -9,7 +9,7 @@ use Rattle.units.specs.Ticks.{tick}
 use Rattle.units.specs.Limits.{ACTORS}
 use Rattle.units.specs.Firings.{firing}
 use Rattle.period.specs.Period.{workOf}
-use Rattle.graph.specs.Shape.{noActor}
+use Rattle.tables.specs.Shape.{noActor}
 use Rattle.graph.proofs.iteration.works_of.Statement.{statement}
 use Rattle.graph.proofs.iteration.works_of.Tie as tie
 

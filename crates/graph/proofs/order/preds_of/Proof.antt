@@ -3,8 +3,8 @@ use mathlib.Core.Path.{_≡_, refl}
 use Prim.Native.Nat.{_≤_, _-_}
 use native.Mathlib.Omega.{arith}
 use Rattle.numbers.specs.Bits.{with-is}
-use Rattle.graph.specs.Shape.{channelAt}
-use Rattle.graph.specs.Proper.{ProperChannel}
+use Rattle.tables.specs.Shape.{channelAt}
+use Rattle.tables.specs.Proper.{ProperChannel}
 use Rattle.graph.specs.Rounds.{predsFrom}
 use Rattle.graph.proofs.Sorted.{preds-next}
 use Rattle.graph.proofs.order.preds_of.Statement.{statement}

@@ -6,7 +6,7 @@ use native.Mathlib.Omega.{arith}
 use lib.ListN.{length-take, length-drop}
 use Rattle.numbers.specs.Filled.{FilledBy, filled-none, filled-set, filled-all}
 use Rattle.units.specs.Limits.{ACTORS}
-use Rattle.graph.specs.Shape.{noActor}
+use Rattle.tables.specs.Shape.{noActor}
 use Rattle.layout.specs.Joined.{part}
 use Rattle.layout.specs.Words.{ACTOR-WORDS}
 use Rattle.layout.specs.Read.{actorOf}

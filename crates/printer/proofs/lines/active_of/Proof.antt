@@ -5,7 +5,7 @@ use Prim.Native.Nat.{_-_}
 use native.Mathlib.Omega.{arith}
 use Rattle.numbers.specs.Filled.{FilledBy, filled-none, filled-set, filled-all}
 use Rattle.units.specs.Limits.{MODES}
-use Rattle.graph.specs.Shape.{modeAt}
+use Rattle.tables.specs.Shape.{modeAt}
 use Rattle.printer.proofs.lines.active_of.Statement.{statement}
 use Rattle.printer.proofs.lines.active_of.Tie as tie
 

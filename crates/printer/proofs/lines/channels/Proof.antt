@@ -1,7 +1,7 @@
 -- printer::lines::channels meets its contract. The invariant: the lines of the first k are laid. Assumes nothing.
 use Prim.Native.Nat.{_-_, _≤_}
 use native.Mathlib.Omega.{arith}
-use Rattle.graph.specs.Shape.{channelAt}
+use Rattle.tables.specs.Shape.{channelAt}
 use Rattle.printer.specs.Laid.{Laid, texts}
 use Rattle.printer.specs.Printed.{channelText, sizeAt, tokensAt}
 use Rattle.printer.proofs.Laying.{laid-first, laid-next, laid-last, laid-length, room-next}

@@ -4,8 +4,8 @@ use native.Mathlib.Omega.{arith}
 use Rattle.numbers.specs.Filled.{FilledBy, filled-none, filled-set}
 use Rattle.units.specs.Limits.{CHANNELS}
 use Rattle.units.specs.Tokens.{token}
-use Rattle.graph.specs.Shape.{channelAt}
-use Rattle.graph.specs.Proper.{ProperChannel}
+use Rattle.tables.specs.Shape.{channelAt}
+use Rattle.tables.specs.Proper.{ProperChannel}
 use Rattle.schedule.specs.Scheduled.{tokensOn}
 use Rattle.schedule.proofs.Sizing.{of-channels}
 use Rattle.schedule.proofs.rooms.tokens_of.Statement.{statement}

@@ -5,8 +5,8 @@ use Prim.Native.Nat.{ℕ, _-_, _≤_}
 use native.Mathlib.Nat.{mul-le-mul-right}
 use native.Mathlib.Omega.{arith}
 use Rattle.units.specs.Bounds.{MOST-WAIT}
-use Rattle.graph.specs.Shape.{channelAt}
-use Rattle.graph.specs.Proper.{ProperChannel}
+use Rattle.tables.specs.Shape.{channelAt}
+use Rattle.tables.specs.Proper.{ProperChannel}
 use Rattle.schedule.specs.Reached.{Reached}
 use Rattle.schedule.proofs.Finding.{reached-aside, reached-asked, reached-depth}
 use Rattle.schedule.proofs.starts.at_depth.Statement.{statement}

@@ -6,7 +6,7 @@ use native.Mathlib.Omega.{arith}
 use lib.ListN.{getD}
 use Rattle.numbers.specs.Filled.{FilledBy, filled-none, filled-set, filled-left, filled-all}
 use Rattle.units.specs.Limits.{MODES}
-use Rattle.graph.specs.Shape.{modeAt}
+use Rattle.tables.specs.Shape.{modeAt}
 use Rattle.whole.specs.Whole.{noPart, runningOf}
 use Rattle.whole.specs.Steps.{idleRunning}
 use Rattle.whole.proofs.Running.{part-fitting, part-idle}

@@ -1,2 +1,0 @@
--- The parts of what it is for a table to be proper.
-pub mod Parts
