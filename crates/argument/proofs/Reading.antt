@@ -1,72 +1,27 @@
--- Laws of arguments: what the reader of numbers finds, and where a request is parted. Assumes nothing.
-use mathlib.Core.Path.{_≡_, refl, ap, ap₂, sym, _∙_}
+-- Laws of arguments: where a request is parted, and what is read of it. Assumes nothing.
+use mathlib.Core.Path.{_≡_, refl, ap, ap₂, sym, subst, _∙_}
 use mathlib.Core.Bool.{Bool, true, false, cond}
 use mathlib.Core.List.{List, [], _∷_, _++_}
-use Prim.Native.Nat.{ℕ, suc, _+_, _-_, _*_, _^_, _≤_, _<_}
+use Prim.Native.Nat.{ℕ, suc, _+_, _-_, _^_, _≤_, _<_}
 use native.Mathlib.Numerals.{add-one}
 use native.Mathlib.Omega.{arith}
 use lib.Dec.{eqb}
 use lib.ListN.{length, getD, take, drop, drop-of-length-le, length-append, length-drop}
 use lib.Seq.{take-all, drop-cons, take-append-seam, drop-append-add, split-at}
-use borrow.Author.Tests.{lt-ltb, le-ltb, eq-eqb, ne-eqb, eqb-true}
+use borrow.Author.Tests.{eq-eqb, ne-eqb, eqb-true}
 use Rattle.numbers.specs.Every.{Every}
-use Rattle.table.specs.Decimal.{decimal}
-use Rattle.table.specs.Digits.{digitOf, digits, onNumber, numberOf}
-use Rattle.table.proofs.Numerals.{ranged, above, number-empty, number-zero, number-next}
-use Rattle.table.proofs.Written.{IsDigit, all-digits, number-iff, decimal-one}
-use Rattle.argument.specs.declared.Number.{Number}
+use Rattle.csv.specs.declared.decimal.Number.{Number}
+use Rattle.csv.specs.declared.decimal.Number.the-variants.{Is, Bad}
+use Rattle.csv.specs.Decimal.{decimal, IsDigit}
+use Rattle.csv.specs.Numbers.{NumberOf}
+use Rattle.csv.proofs.Decimals.{decimal-writes, decimal-is, decimal-injective, writes-digits}
 use Rattle.argument.specs.declared.Request.{Request}
-use Rattle.argument.specs.Argument.{aNumber, noNumber, NumberOf, aRequest, noRequest, requestText, RequestOf}
+use Rattle.argument.specs.Argument.{aRequest, noRequest, requestText, RequestOf}
 use Rattle.argument.specs.Sign.{signIn}
 
 -- the greatest number of 64 bits
 abbrev pub TOP : ℕ
 TOP = 18446744073709551615
-
-refuse : (s : List ℕ) → onNumber (numberOf s 0 TOP) aNumber noNumber ≡ noNumber → NumberOf s noNumber
-refuse s e =
-    NumberOf.bad
-    (λ n w l. let f : aNumber n ≡ onNumber (numberOf s 0 TOP) aNumber noNumber = rw (number-iff s 0 TOP n .1 (w, omega arith, omega arith)) in
-    let g : true ≡ false = ap (λ (x : Number). x .good) (f ∙ e) in
-    let z : _≡_ {A = ℕ} 0 1 = cc in absurd (omega arith))
-
-pub by-none : {s : List ℕ} {x : Number} → x ≡ noNumber → NumberOf s noNumber → NumberOf s x
-by-none e p = rw e p
-
-pub no-bytes : (s : List ℕ) → length s ≡ 0 → NumberOf s noNumber
-no-bytes s e = refuse s (rw (← number-empty 0 TOP s e))
-
-pub zero-first : (s : List ℕ) → getD s 0 0 ≡ 48 → 1 < length s → NumberOf s noNumber
-zero-first s e l = refuse s (rw (← number-zero 0 TOP s e l))
-
--- the digits up to place i were read, and write v
-module _ (s : List ℕ) (i v : ℕ) (so-far : numberOf s 0 TOP ≡ ranged 0 TOP (digits (drop i s) v)) where
-  pub byte-below : i < length s → getD s i 0 < 48 → NumberOf s noNumber
-  unfolding digitOf
-  byte-below l h = refuse s (rw (number-next s 0 TOP i v so-far l refl, lt-ltb (getD s i 0) 48 h))
-
-  pub byte-above : i < length s → 57 < getD s i 0 → NumberOf s noNumber
-  unfolding digitOf
-  byte-above l h = refuse s (rw (number-next s 0 TOP i v so-far l refl, le-ltb (getD s i 0) 48 (omega arith), le-ltb (getD s i 0) 58 (omega arith)))
-
-  pub byte-digit : i < length s → 48 ≤ getD s i 0 → getD s i 0 ≤ 57 → numberOf s 0 TOP ≡ ranged 0 TOP (digits (drop (i + 1) s) (v * 10 + (getD s i 0 - 48)))
-  unfolding digitOf
-  byte-digit l h k = number-next s 0 TOP i v so-far l refl ∙ rw (le-ltb (getD s i 0) 48 h, lt-ltb (getD s i 0) 58 (omega arith))
-
-  pub too-great : i < length s → 48 ≤ getD s i 0 → getD s i 0 ≤ 57 → TOP < v * 10 + (getD s i 0 - 48) → NumberOf s noNumber
-  too-great l h k g = refuse s (rw (byte-digit l h k ∙ above (drop (i + 1) s) (v * 10 + (getD s i 0 - 48)) 0 TOP g))
-
-  pub whole-number : length s ≤ i → v ≤ TOP → NumberOf s (aNumber v)
-  unfolding digits
-  whole-number l h =
-      let w = number-iff s 0 TOP v .0 (so-far ∙ rw (drop-of-length-le s l, le-ltb TOP v h, le-ltb v 0 (omega arith))) in
-      NumberOf.good (w .0) (omega (arith, w .2))
-
-pub number-unique : {s : List ℕ} {x y : Number} → NumberOf s x → NumberOf s y → x ≡ y
-number-unique (NumberOf.good {n = m} e l) (NumberOf.good {n} f h) = ap aNumber (decimal-one m n (sym e ∙ f))
-number-unique (NumberOf.good {n = m} e l) (NumberOf.bad h) = absurd (h m e l)
-number-unique (NumberOf.bad h) (NumberOf.good {n = m} e l) = absurd (h m e l)
-number-unique (NumberOf.bad h) (NumberOf.bad k) = refl
 
 -- the sign at a place
 module _ (s : List ℕ) (i : ℕ) where
@@ -102,7 +57,7 @@ sign-is (b ∷ s) l = go (eqb b 64) refl l (sign-is s)
 -- the parts of a request
 module _ (s : List ℕ) (mode clock : ℕ) (e : s ≡ requestText mode clock) where
   at : signIn s ≡ length (decimal mode)
-  at = ap signIn e ∙ digits-sign (decimal mode) (decimal clock) (all-digits mode)
+  at = ap signIn e ∙ digits-sign (decimal mode) (decimal clock) (writes-digits (decimal-writes mode))
 
   sign-there : signIn s < length s
   sign-there = omega (arith, at, ap length e ∙ length-append (decimal mode) (64 ∷ decimal clock))
@@ -115,42 +70,44 @@ module _ (s : List ℕ) (mode clock : ℕ) (e : s ≡ requestText mode clock) wh
 
 pub request-unique : {s : List ℕ} {x y : Request} → RequestOf s x → RequestOf s y → x ≡ y
 request-unique {s} (RequestOf.good {mode = m} {clock = c} e l h) (RequestOf.good {mode = n} {clock = d} f k g) =
-    ap₂ aRequest (decimal-one m n (sym (mode-there s m c e) ∙ mode-there s n d f)) (decimal-one c d (sym (clock-there s m c e) ∙ clock-there s n d f))
+    ap₂ aRequest (decimal-injective m n (sym (mode-there s m c e) ∙ mode-there s n d f)) (decimal-injective c d (sym (clock-there s m c e) ∙ clock-there s n d f))
 request-unique (RequestOf.good {mode = m} {clock = c} e l h) (RequestOf.bad k) = absurd (k m c e l h)
 request-unique (RequestOf.bad k) (RequestOf.good {mode = m} {clock = c} e l h) = absurd (k m c e l h)
 request-unique (RequestOf.bad h) (RequestOf.bad k) = refl
 
-number-good : {s : List ℕ} {x : Number} → NumberOf s x → x .good ≡ true → (s ≡ decimal (x .value)) × (x .value < 2 ^ 64)
-number-good (NumberOf.good e l) g = (e, l)
-number-good (NumberOf.bad h) g = let z : _≡_ {A = ℕ} 0 1 = cc in absurd (omega arith)
-
-number-bad : {s : List ℕ} {x : Number} → NumberOf s x → x .good ≡ false → (n : ℕ) → s ≡ decimal n → n < 2 ^ 64 → ⊥
-number-bad (NumberOf.good e l) g = let z : _≡_ {A = ℕ} 0 1 = cc in absurd (omega arith)
-number-bad (NumberOf.bad h) g = h
-
 pub by-no-request : {s : List ℕ} {x : Request} → x ≡ noRequest → RequestOf s noRequest → RequestOf s x
 by-no-request e p = rw e p
 
+-- a number of 64 bits, and none
+number-good : (s : List ℕ) {x : Number} {n : ℕ} → NumberOf s 0 TOP x → x ≡ Is n → (s ≡ decimal n) × (n < 2 ^ 64)
+number-good s p e = let g = subst (λ (y : Number). NumberOf s 0 TOP y) e p in (sym (decimal-is (g .1)), omega (arith, g .0 .1))
+
+number-bad : (s : List ℕ) {x : Number} → NumberOf s 0 TOP x → x ≡ Bad → (n : ℕ) → s ≡ decimal n → n < 2 ^ 64 → ⊥
+number-bad s p e n f l = subst (λ (y : Number). NumberOf s 0 TOP y) e p n (omega arith, omega arith) (rw f (decimal-writes n))
+
 -- what is read of a request, by its parts
 module _ (s : List ℕ) (k : ℕ) (at-sign : k ≡ signIn s) where
-  rest : take (length s - (k + 1)) (drop (k + 1) s) ≡ drop (signIn s + 1) s
+  abbrev tail : List ℕ
+  tail = take (length s - (k + 1)) (drop (k + 1) s)
+
+  rest : tail ≡ drop (signIn s + 1) s
   rest = take-all (length s - (k + 1)) (drop (k + 1) s) (omega (arith, length-drop (k + 1) s)) ∙ rw at-sign
 
   pub unparted : length s ≤ k → RequestOf s noRequest
   unparted l = RequestOf.bad (λ m c e h g. absurd (omega (arith, sign-there s m c e)))
 
-  pub no-mode : {x : Number} → NumberOf (take k s) x → x .good ≡ false → RequestOf s noRequest
-  no-mode p g = RequestOf.bad (λ m c e h l. number-bad p g m (rw at-sign (mode-there s m c e)) h)
+  pub no-mode : {x : Number} → NumberOf (take k s) 0 TOP x → x ≡ Bad → RequestOf s noRequest
+  no-mode p g = RequestOf.bad (λ m c e h l. number-bad (take k s) p g m (rw at-sign (mode-there s m c e)) h)
 
-  pub no-clock : {x : Number} → NumberOf (take (length s - (k + 1)) (drop (k + 1) s)) x → x .good ≡ false → RequestOf s noRequest
-  no-clock p g = RequestOf.bad (λ m c e h l. number-bad p g c (rest ∙ clock-there s m c e) l)
+  pub no-clock : {x : Number} → NumberOf tail 0 TOP x → x ≡ Bad → RequestOf s noRequest
+  no-clock p g = RequestOf.bad (λ m c e h l. number-bad tail p g c (rest ∙ clock-there s m c e) l)
 
-  pub read-request : {x y : Number} → k < length s → NumberOf (take k s) x → NumberOf (take (length s - (k + 1)) (drop (k + 1) s)) y → x .good ≡ true → y .good ≡ true
-      → RequestOf s (aRequest (x .value) (y .value))
-  read-request {x} {y} l p q g h =
-      let m = number-good p g in
-      let c = number-good q h in
+  pub read-request : {x y : Number} {mode clock : ℕ} → k < length s → NumberOf (take k s) 0 TOP x → x ≡ Is mode → NumberOf tail 0 TOP y → y ≡ Is clock
+      → RequestOf s (aRequest mode clock)
+  read-request l p e q f =
       let there : signIn s < length s = omega (arith, at-sign, l) in
+      let m = number-good (take k s) p e in
+      let c = number-good tail q f in
       RequestOf.good
       (split-at s (signIn s) 0 there
       ∙ ap₂ (λ (b k : ℕ). take (signIn s) s ++ (b ∷ drop k s)) (sign-is s there) (sym (add-one (signIn s)))

@@ -1,8 +1,9 @@
 // A machine on the words of a plan, and its answers to the requests among the arguments.
-use argument::Number;
 use argument::Request;
-use argument::number_of;
 use argument::request_of;
+use csv::decimal::GREATEST;
+use csv::decimal::Number;
+use csv::decimal::number_of;
 use libc::STDOUT_FILENO;
 use machine::Beginning;
 use machine::Machine;
@@ -27,7 +28,7 @@ fn state(machine: Machine) {
 fn mode_at(i: usize) -> Number {
     let mut arg = [0u8; 64];
     let k = os::arg(i, &mut arg);
-    number_of(&arg[..k])
+    number_of(&arg[..k], 0, GREATEST)
 }
 
 // The request that argument i is.
@@ -39,10 +40,9 @@ fn request_at(i: usize) -> Request {
 
 // The place of the first argument that is not of its form, counted from 1; 0 where all are.
 pub(crate) fn first_bad(first: usize, end: usize) -> usize {
-    let mode = mode_at(first);
-    if !mode.good {
+    let Number::Is(_) = mode_at(first) else {
         return 1;
-    }
+    };
     for i in first..end {
         if i != first {
             let request = request_at(i);
@@ -87,8 +87,10 @@ fn run(words: &[u64], begun: Machine, first: usize, end: usize) {
 }
 
 pub(crate) fn begin(words: &[u64], first: usize, end: usize) {
-    let mode = mode_at(first);
-    match machine::start(words, mode.value) {
+    let Number::Is(mode) = mode_at(first) else {
+        return;
+    };
+    match machine::start(words, mode) {
         Beginning::Begun(begun) => run(words, begun, first, end),
         Beginning::Refused(refusal) => {
             console::refused(refusal);

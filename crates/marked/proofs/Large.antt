@@ -11,20 +11,20 @@ use Rattle.numbers.specs.Lowest.{lowestOr}
 use Rattle.numbers.specs.Reckoned.{gcdFrom}
 use Rattle.units.specs.Limits.{MODES, ACTORS}
 use Rattle.terms.specs.Text.{bytes}
+use Rattle.csv.specs.Writing.{joined}
+use Rattle.csv.proofs.Decimals.{numeral-is}
 use Rattle.table.specs.Bytes.{classOf}
 use Rattle.table.specs.Digits.{digitOf, digits, written, numberOf, wordLen, ratesFrom, ratesOf}
 use Rattle.table.specs.Judge.{same, actorOf, channelOf, parsedOf, actorListed, channelListed, listed, homesOf, zeros, readFrom, readOf}
 use Rattle.table.specs.Scan.{plainLen, closed, cellOf, pastComma, pastEnd, cellsFrom}
 use Rattle.table.specs.Told.{tableOf}
-use Rattle.table.specs.Writing.{joined}
-use Rattle.table.proofs.Written.{number-iff}
 use Rattle.graph.specs.Rounds.{predsFrom, roundFrom, orderFrom, chosen, giversFrom}
 use Rattle.graph.specs.Counts.{entriesFrom, stays, fedOf, countsFrom, balancesb}
 use Rattle.graph.specs.Lengths.{mostFrom, commonFrom, shareFrom}
 use Rattle.graph.specs.Judge.{timedOf, balancedOf, judgeOf}
 use Rattle.channel.specs.Phases.{startOf, sizeOf}
 use Rattle.schedule.specs.Model.{depthFrom, startsFrom, scheduleOf}
-use Rattle.printer.specs.Laid.{texts}
+use Rattle.printer.specs.Texts.{texts}
 use Rattle.printer.specs.Printed.{five, lineText, planText}
 use Rattle.marked.specs.Lines.{textOf}
 use Rattle.marked.proofs.Reckoned.{answerOf, partFor, wholeOf}
@@ -54,16 +54,16 @@ printed-lines = refl
 
 written-lines : (actorLine 1 1 16777216 0 ++ actorLine 2 16 1048576 16777216) ++ lineText (bytes "channel") (five 1 1 2 32 16)
     ≡ textOf ("actor,1,1,1,16777216,0" ∷ "actor,1,2,16,1048576,16777216" ∷ "channel,1,1,2,32,16" ∷ [])
-unfolding lineText joined numberOf written digits digitOf
+unfolding lineText joined
 written-lines =
     rw (
-      sym (number-iff (bytes "16777216") 0 16777216 16777216 .0 refl .0),
-      sym (number-iff (bytes "1048576") 0 1048576 1048576 .0 refl .0),
-      sym (number-iff (bytes "32") 0 32 32 .0 refl .0),
-      sym (number-iff (bytes "16") 0 16 16 .0 refl .0),
-      sym (number-iff (bytes "2") 0 2 2 .0 refl .0),
-      sym (number-iff (bytes "1") 0 1 1 .0 refl .0),
-      sym (number-iff (bytes "0") 0 0 0 .0 refl .0),
+      numeral-is (bytes "16777216") refl,
+      numeral-is (bytes "1048576") refl,
+      numeral-is (bytes "32") refl,
+      numeral-is (bytes "16") refl,
+      numeral-is (bytes "2") refl,
+      numeral-is (bytes "1") refl,
+      numeral-is (bytes "0") refl,
     ) refl
 
 pub large : planText (tableIn text) (wholeOf (tableIn text)) ≡ textOf ("actor,1,1,1,16777216,0" ∷ "actor,1,2,16,1048576,16777216" ∷ "channel,1,1,2,32,16" ∷ [])

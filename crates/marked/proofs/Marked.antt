@@ -8,13 +8,13 @@ use Rattle.numbers.specs.Sum.{sum}
 use Rattle.numbers.specs.Tab.{tab}
 use Rattle.numbers.specs.Lowest.{lowestOr}
 use Rattle.numbers.specs.Reckoned.{gcdFrom}
+use Rattle.csv.specs.Decimal.{writing, written as writtenOut, decimal}
+use Rattle.csv.specs.Writing.{joined}
 use Rattle.table.specs.Bytes.{classOf}
-use Rattle.table.specs.Decimal.{decimalFrom, decimal}
 use Rattle.table.specs.Digits.{digitOf, digits, written, numberOf, wordLen, ratesFrom, ratesOf}
 use Rattle.table.specs.Judge.{same, actorOf, channelOf, parsedOf, actorListed, channelListed, listed, homesOf, zeros, readFrom, readOf}
 use Rattle.table.specs.Scan.{plainLen, closed, cellOf, pastComma, pastEnd, cellsFrom}
 use Rattle.table.specs.Told.{tableOf}
-use Rattle.table.specs.Writing.{joined}
 use Rattle.graph.specs.Rounds.{predsFrom, roundFrom, orderFrom, chosen, giversFrom}
 use Rattle.graph.specs.Counts.{entriesFrom, stays, fedOf, countsFrom, balancesb}
 use Rattle.graph.specs.Lengths.{mostFrom, commonFrom, shareFrom}
@@ -22,7 +22,7 @@ use Rattle.graph.specs.Judge.{timedOf, balancedOf, judgeOf}
 use Rattle.channel.specs.Phases.{startOf, sizeOf}
 use Rattle.schedule.specs.Model.{depthFrom, startsFrom, scheduleOf}
 use Rattle.run.specs.Machine.{refusal}
-use Rattle.printer.specs.Laid.{texts}
+use Rattle.printer.specs.Texts.{texts}
 use Rattle.printer.specs.Printed.{lineText}
 use Rattle.marked.specs.Lines.{Holds, lines}
 use Rattle.marked.proofs.Reckoned.{answerOf, partFor}
@@ -36,7 +36,7 @@ _&_ : {A B : Type 0} → A → B → A × B
 a & b = (a, b)
 
 pub marked : Every Holds lines
-unfolding lines Tells bit sum sumOf tab lowestOr gcdFrom mostOf readOf readFrom cellsFrom cellOf plainLen closed pastComma pastEnd classOf parsedOf actorOf channelOf same numberOf written digits digitOf ratesOf ratesFrom wordLen listed actorListed channelListed zeros homesOf tableOf predsFrom roundFrom orderFrom chosen giversFrom entriesFrom stays fedOf countsFrom balancesb mostFrom commonFrom shareFrom timedOf balancedOf judgeOf startOf sizeOf depthFrom startsFrom scheduleOf answerOf partFor texts lineText joined decimal decimalFrom refusal
+unfolding lines Tells bit sum sumOf tab lowestOr gcdFrom mostOf readOf readFrom cellsFrom cellOf plainLen closed pastComma pastEnd classOf parsedOf actorOf channelOf same numberOf written digits digitOf ratesOf ratesFrom wordLen listed actorListed channelListed zeros homesOf tableOf predsFrom roundFrom orderFrom chosen giversFrom entriesFrom stays fedOf countsFrom balancesb mostFrom commonFrom shareFrom timedOf balancedOf judgeOf startOf sizeOf depthFrom startsFrom scheduleOf answerOf partFor texts lineText joined decimal writtenOut writing refusal
 marked =
     all-hold lines
     (((tt, refl), refl)

@@ -6,6 +6,7 @@ pub mod All
 pub mod Tab
 pub mod Digits
 pub mod Filled
+pub mod Padded
 pub mod Sum
 pub mod Common
 pub mod Euclid

@@ -1,28 +1,15 @@
--- Laws of decimal numbers. Assumes nothing.
-use mathlib.Core.Path.{_≡_, refl, ap}
+-- How many digits a number has. Assumes nothing.
+use mathlib.Core.Path.{_≡_, refl}
 use mathlib.Core.Bool.{Bool, true, false}
-use mathlib.Core.List.{List, [], _∷_, _++_}
+use mathlib.Core.List.{[], _∷_}
 use Prim.Native.Nat.{ℕ, zero, suc, _+_, _/_, _%_, _^_, _≤_, _<_}
-use native.Mathlib.Nat.{le-refl}
 use native.Mathlib.Omega.{arith}
 use lib.Dec.{ltb}
 use lib.ListN.{length, length-append}
-use borrow.Author.Tests.{ltb-true, ltb-false, lt-ltb, le-ltb}
+use borrow.Author.Tests.{ltb-true, ltb-false}
 use Rattle.numbers.specs.Digits.{digits, digits-above, digits-some}
-use Rattle.table.specs.Decimal.{decimalFrom, decimal}
-use Rattle.table.proofs.Written.{decimal-steps}
-
-pub decimal-one : (n : ℕ) → n < 10 → decimal n ≡ (48 + n) ∷ []
-unfolding decimal decimalFrom
-decimal-one zero h = refl
-decimal-one (suc n) h = rw (lt-ltb (suc n) 10 h)
-
-pub decimal-more : (n : ℕ) → 10 ≤ n → decimal n ≡ decimal (n / 10) ++ ((48 + n % 10) ∷ [])
-unfolding decimal decimalFrom
-decimal-more zero h = absurd (omega arith)
-decimal-more (suc n) h =
-    rw (le-ltb (suc n) 10 h)
-    (ap (λ (s : List ℕ). s ++ ((48 + suc n % 10) ∷ [])) (decimal-steps n (suc n / 10) (suc n / 10) (omega arith) (le-refl (suc n / 10))))
+use Rattle.csv.specs.Decimal.{decimal}
+use Rattle.csv.proofs.Decimals.{decimal-one, decimal-more}
 
 -- a number below 10 to the k has at most k digits
 pub digits-most : (k n : ℕ) → n < 10 ^ suc k → length (decimal n) ≤ suc k

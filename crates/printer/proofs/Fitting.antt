@@ -18,14 +18,14 @@ use Rattle.terms.specs.declared.refusal.Printed.{Printed}
 use Rattle.tables.specs.Shape.{channelAt, modeAt}
 use Rattle.tables.specs.declared.Mode.{Mode}
 use Rattle.tables.specs.declared.Table.{Table}
-use Rattle.table.specs.Decimal.{decimal}
-use Rattle.table.specs.Writing.{joined}
+use Rattle.csv.specs.Decimal.{decimal}
+use Rattle.csv.specs.Writing.{joined}
 use Rattle.change.specs.declared.Timing.{Timing}
 use Rattle.whole.specs.declared.Part.{Part}
 use Rattle.whole.specs.declared.Whole.{Whole}
 use Rattle.whole.specs.Whole.{partAt}
 use Rattle.printer.specs.declared.bytes.Five.{Five}
-use Rattle.printer.specs.Laid.{texts}
+use Rattle.printer.specs.Texts.{texts}
 use Rattle.printer.specs.Printed.{lineText, five, actorText, channelText, changeText, actorsText, channelsText, modeText, fromText, changesText, modesText, activeOf, planText, printedText}
 use Rattle.printer.specs.Printed.{firingsAt, periodAt, startAt, sizeAt, tokensAt, changeAt, ACTOR-LINE, CHANNEL-LINE, CHANGE-LINE, PRINTED, SmallPart, SmallTiming, Small}
 use Rattle.printer.proofs.Digits.{digits-most, digits-within}

@@ -1,3 +1,3 @@
--- The rules of what is printed, and of bytes laid over a buffer.
-pub mod Laid
+-- The rules of what is printed.
+pub mod Texts
 pub mod Printed

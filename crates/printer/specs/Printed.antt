@@ -26,14 +26,14 @@ use Rattle.tables.specs.Shape.{channelAt, modeAt}
 use Rattle.tables.specs.declared.Channel.{Channel}
 use Rattle.tables.specs.declared.Mode.{Mode}
 use Rattle.tables.specs.declared.Table.{Table}
-use Rattle.table.specs.Decimal.{decimal}
-use Rattle.table.specs.Writing.{joined}
+use Rattle.csv.specs.Decimal.{decimal}
+use Rattle.csv.specs.Writing.{joined}
 use Rattle.change.specs.declared.Timing.{Timing}
 use Rattle.whole.specs.declared.Part.{Part}
 use Rattle.whole.specs.declared.Whole.{Whole}
 use Rattle.whole.specs.Whole.{noTiming, partAt}
 use Rattle.printer.specs.declared.bytes.Five.{Five}
-use Rattle.printer.specs.Laid.{texts}
+use Rattle.printer.specs.Texts.{texts}
 
 -- what is planned of an actor at place i and of a channel at place k of a mode
 abbrev pub firingsAt : Part → ℕ → Firing

@@ -12,7 +12,7 @@ use units::limits::MODES;
 use whole::Whole;
 ghost use mathlib.Core.Path.{_≡_};
 ghost use lib.ListN.{length};
-ghost use Rattle.printer.specs.Laid.{Room, Laid};
+ghost use Rattle.csv.specs.Laid.{Room, Laid};
 ghost use Rattle.printer.specs.Printed.{PRINTED as PRINTED-LIMIT, Small, Shows, planText, refusalText, modesText};
 
 // The most bytes of a line: its word, five commas, its numbers, and CRLF.

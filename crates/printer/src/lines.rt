@@ -17,7 +17,7 @@ ghost use mathlib.Core.Path.{_≡_};
 ghost use Prim.Native.Nat.{_*_, _<_};
 ghost use lib.ListN.{length};
 ghost use Rattle.units.specs.Limits.{ACTORS as ACTORS-LIMIT, MODES as MODES-LIMIT};
-ghost use Rattle.printer.specs.Laid.{Room, Laid};
+ghost use Rattle.csv.specs.Laid.{Room, Laid};
 ghost use Rattle.printer.specs.Printed.{SmallPart, actorText, channelText, changeText, actorsText, channelsText, modeText, fromText, changesText, activeOf};
 
 // An actor, where it is active.

@@ -1,4 +1,4 @@
--- asking::argument::sign_in meets its contract. The invariant: the sign stands where it stands from i on. Assumes nothing.
+-- argument::sign_in meets its contract. The invariant: the sign stands where it stands from i on. Assumes nothing.
 use borrow.Author.Needs.{needs}
 use mathlib.Core.Path.{_≡_}
 use Prim.Native.Nat.{_+_, _-_}

@@ -5,9 +5,11 @@ use native.Mathlib.Omega.{arith}
 use Rattle.units.specs.Limits.{MODES}
 use Rattle.tables.specs.Shape.{modeAt}
 use Rattle.whole.specs.Whole.{partAt}
-use Rattle.printer.specs.Laid.{Laid, texts}
+use Rattle.csv.specs.Laid.{Laid}
+use Rattle.printer.specs.Texts.{texts}
 use Rattle.printer.specs.Printed.{modeText}
-use Rattle.printer.proofs.Laying.{laid-first, laid-next, laid-last, laid-length, room-next}
+use Rattle.csv.proofs.Laying.{laid-length}
+use Rattle.printer.proofs.Laying.{laid-first, laid-next, laid-last, room-next}
 use Rattle.printer.proofs.modes.Statement.{statement}
 use Rattle.printer.proofs.modes.Tie as tie
 

@@ -6,9 +6,10 @@ use lib.ListN.{length-map}
 use Rattle.numbers.specs.Tab.{length-tab}
 use Rattle.units.specs.Limits.{MODES}
 use Rattle.tables.specs.Shape.{modeAt}
-use Rattle.printer.specs.Laid.{Room, Laid}
+use Rattle.csv.specs.Laid.{Room, Laid}
 use Rattle.printer.specs.Printed.{planText, changesText, activeOf}
-use Rattle.printer.proofs.Laying.{laid-then, room-first, room-then, room-end, shown}
+use Rattle.csv.proofs.Laying.{laid-then, room-first, room-then}
+use Rattle.printer.proofs.Laying.{room-end, shown}
 use Rattle.printer.proofs.Fitting.{plan-fits}
 use Rattle.printer.proofs.print.Statement.{statement}
 use Rattle.printer.proofs.print.Tie as tie

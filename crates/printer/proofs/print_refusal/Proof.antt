@@ -1,7 +1,7 @@
 -- printer::print_refusal meets its contract. Assumes nothing.
 use borrow.Author.Needs.{needs}
 use native.Mathlib.Omega.{arith}
-use Rattle.printer.specs.Laid.{Room}
+use Rattle.csv.specs.Laid.{Room}
 use Rattle.printer.specs.Printed.{printedText}
 use Rattle.printer.proofs.Laying.{room-end, shown}
 use Rattle.printer.proofs.Fitting.{Fitting, refusal-fits}

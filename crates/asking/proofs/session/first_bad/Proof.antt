@@ -19,6 +19,8 @@ first-bad-spec =
     μ-loop
     (λ c κs. search needs)
     (λ c. search needs)
+    (λ c. search needs)
+    (λ c. search needs)
     (λ c. omega arith)
     (λ c κs. search needs)
     (λ c. search needs)

@@ -3,8 +3,9 @@ use mathlib.Core.Path.{_≡_, subst}
 use Prim.Native.Nat.{ℕ, _-_, _≤_}
 use native.Mathlib.Omega.{arith}
 use lib.ListN.{length, replicate}
-use Rattle.printer.specs.Laid.{Laid}
-use Rattle.printer.proofs.Laying.{laid-none, laid-length, laid-blank}
+use Rattle.csv.specs.Laid.{Laid}
+use Rattle.csv.proofs.Laying.{laid-none, laid-length}
+use Rattle.printer.proofs.Laying.{laid-blank}
 use Rattle.printer.proofs.bytes.blank.Statement.{statement}
 use Rattle.printer.proofs.bytes.blank.Tie as tie
 

@@ -1,6 +1,6 @@
 -- printer::bytes::line meets its contract. Assumes nothing.
-use Rattle.printer.specs.Laid.{Room}
-use Rattle.printer.proofs.Laying.{laid-then, laid-length, room-first, room-then}
+use Rattle.csv.specs.Laid.{Room}
+use Rattle.csv.proofs.Laying.{laid-then, laid-length, room-first, room-then}
 use Rattle.printer.proofs.Fitting.{end, from-4, from-3, from-2, from-1, from-0, line-parts}
 use Rattle.printer.proofs.bytes.line.Statement.{statement}
 use Rattle.printer.proofs.bytes.line.Tie as tie

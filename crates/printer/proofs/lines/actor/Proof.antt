@@ -3,7 +3,7 @@ use borrow.Author.Needs.{needs}
 use borrow.Author.Tests.{not-true, not-false}
 use mathlib.Core.Path.{_∙_}
 use Rattle.numbers.specs.Bits.{has-is}
-use Rattle.printer.proofs.Laying.{laid-none, laid-length}
+use Rattle.csv.proofs.Laying.{laid-none, laid-length}
 use Rattle.printer.proofs.lines.actor.Statement.{statement}
 use Rattle.printer.proofs.lines.actor.Tie as tie
 

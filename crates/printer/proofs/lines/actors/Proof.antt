@@ -3,9 +3,11 @@ use borrow.Author.Needs.{needs}
 use Prim.Native.Nat.{_-_, _≤_}
 use native.Mathlib.Omega.{arith}
 use Rattle.units.specs.Limits.{ACTORS}
-use Rattle.printer.specs.Laid.{Laid, texts}
+use Rattle.csv.specs.Laid.{Laid}
+use Rattle.printer.specs.Texts.{texts}
 use Rattle.printer.specs.Printed.{actorText, firingsAt, periodAt, startAt}
-use Rattle.printer.proofs.Laying.{laid-first, laid-next, laid-last, laid-length, room-next}
+use Rattle.csv.proofs.Laying.{laid-length}
+use Rattle.printer.proofs.Laying.{laid-first, laid-next, laid-last, room-next}
 use Rattle.printer.proofs.lines.actors.Statement.{statement}
 use Rattle.printer.proofs.lines.actors.Tie as tie
 

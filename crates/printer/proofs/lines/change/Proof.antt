@@ -1,7 +1,7 @@
 -- printer::lines::change meets its contract. Assumes nothing.
 use borrow.Author.Needs.{needs}
 use borrow.Author.Tests.{eq-eqb, ne-eqb}
-use Rattle.printer.proofs.Laying.{laid-none, laid-length}
+use Rattle.csv.proofs.Laying.{laid-none, laid-length}
 use Rattle.printer.proofs.lines.change.Statement.{statement}
 use Rattle.printer.proofs.lines.change.Tie as tie
 

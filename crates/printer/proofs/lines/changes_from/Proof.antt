@@ -4,9 +4,11 @@ use Prim.Native.Nat.{_-_, _≤_}
 use native.Mathlib.Omega.{arith}
 use lib.ListN.{getD}
 use Rattle.units.specs.Limits.{MODES}
-use Rattle.printer.specs.Laid.{Laid, texts}
+use Rattle.csv.specs.Laid.{Laid}
+use Rattle.printer.specs.Texts.{texts}
 use Rattle.printer.specs.Printed.{changeText, changeAt}
-use Rattle.printer.proofs.Laying.{laid-first, laid-next, laid-last, laid-length, room-next}
+use Rattle.csv.proofs.Laying.{laid-length}
+use Rattle.printer.proofs.Laying.{laid-first, laid-next, laid-last, room-next}
 use Rattle.printer.proofs.lines.changes_from.Statement.{statement}
 use Rattle.printer.proofs.lines.changes_from.Tie as tie
 

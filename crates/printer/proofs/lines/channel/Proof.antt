@@ -1,6 +1,6 @@
 -- printer::lines::channel meets its contract. Assumes nothing.
 use borrow.Author.Needs.{needs}
-use Rattle.printer.proofs.Laying.{laid-length}
+use Rattle.csv.proofs.Laying.{laid-length}
 use Rattle.printer.proofs.lines.channel.Statement.{statement}
 use Rattle.printer.proofs.lines.channel.Tie as tie
 

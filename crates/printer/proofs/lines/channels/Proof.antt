@@ -2,9 +2,11 @@
 use Prim.Native.Nat.{_-_, _≤_}
 use native.Mathlib.Omega.{arith}
 use Rattle.tables.specs.Shape.{channelAt}
-use Rattle.printer.specs.Laid.{Laid, texts}
+use Rattle.csv.specs.Laid.{Laid}
+use Rattle.printer.specs.Texts.{texts}
 use Rattle.printer.specs.Printed.{channelText, sizeAt, tokensAt}
-use Rattle.printer.proofs.Laying.{laid-first, laid-next, laid-last, laid-length, room-next}
+use Rattle.csv.proofs.Laying.{laid-length}
+use Rattle.printer.proofs.Laying.{laid-first, laid-next, laid-last, room-next}
 use Rattle.printer.proofs.lines.channels.Statement.{statement}
 use Rattle.printer.proofs.lines.channels.Tie as tie
 

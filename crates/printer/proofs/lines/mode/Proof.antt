@@ -1,6 +1,6 @@
 -- printer::lines::mode meets its contract. Assumes nothing.
 use Rattle.printer.specs.Printed.{channelsText}
-use Rattle.printer.proofs.Laying.{laid-then, laid-length, room-first, room-then}
+use Rattle.csv.proofs.Laying.{laid-then, laid-length, room-first, room-then}
 use Rattle.printer.proofs.lines.mode.Statement.{statement}
 use Rattle.printer.proofs.lines.mode.Tie as tie
 
