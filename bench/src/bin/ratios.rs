@@ -48,6 +48,11 @@ mod measured {
         for (name, text) in &named {
             parts(name, text);
         }
+        println!("reading, product against independent: tables with a bad row behind their last");
+        for (name, text) in &named {
+            refused(name, &[text]);
+        }
+        refused("1000 random tables", &many.iter().collect::<Vec<_>>());
         println!("reading 65,536 bytes against a plain loop over them");
         reading("rows, then a list", &samples::rows_and_a_list());
         reading("one quoted field", &samples::one_field());
@@ -153,7 +158,16 @@ mod measured {
         );
     }
 
-    /// (d) Reading of a long text that is refused at its last row, against a search for a byte
+    /// (d) Reading of texts that are refused at a row behind their last.
+    fn refused(name: &str, texts: &[&Vec<u8>]) {
+        let bad: Vec<Vec<u8>> = texts
+            .iter()
+            .map(|text| samples::with_a_bad_row(text))
+            .collect();
+        planning(name, &bad.iter().collect::<Vec<_>>());
+    }
+
+    /// (e) Reading of a long text that is refused at its last row, against a search for a byte
     /// that it does not have.
     fn reading(name: &str, text: &Vec<u8>) {
         let texts = [text];

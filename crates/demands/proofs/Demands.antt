@@ -16,11 +16,11 @@ use Rattle.terms.specs.declared.refusal.Refusal.{Refusal}
 use Rattle.tables.specs.declared.Mode.{Mode}
 use Rattle.tables.specs.declared.Table.{Table}
 use Rattle.tables.specs.Shape.{emptyTable}
-use Rattle.table.specs.declared.Answer.{Answer as ReadAnswer}
-use Rattle.table.specs.declared.Answer.the-variants.{Read, Refused as NotRead}
-use Rattle.table.specs.declared.Reading.{Reading}
-use Rattle.table.specs.Rows.{Row}
-use Rattle.table.specs.Told.{Outcome as Rows, rows, refused as rows-refused, After, Of, readingOf, Told}
+use Rattle.reader.specs.declared.Answer.{Answer as ReadAnswer}
+use Rattle.reader.specs.declared.Answer.the-variants.{Read, Refused as NotRead}
+use Rattle.reader.specs.declared.Reading.{Reading}
+use Rattle.reader.specs.Rows.{Row, by-3, by-4, by-5}
+use Rattle.reader.specs.Told.{Outcome as Rows, rows, refused as rows-refused, FrontRefused, After, Of, readingOf, Told}
 use Rattle.graph.specs.Balance.{firingsOf}
 use Rattle.schedule.proofs.Sound.{at-actor}
 use Rattle.whole.specs.declared.Part.{Part}
@@ -52,14 +52,17 @@ abbrev OfRow : Rows → Type 0
 OfRow (rows rs) = Unit {0}
 OfRow (rows-refused n k) = (1 ≤ n) × (n ≤ 5)
 
+front-row : {earlier : List Row} {text : List ℕ} {n : ℕ} → FrontRefused earlier text n → (1 ≤ n) × (n ≤ 5)
+front-row (FrontRefused.by-1 x) = (omega arith, omega arith)
+front-row (FrontRefused.by-2 x) = (omega arith, omega arith)
+front-row (FrontRefused.by-row f (by-3 x)) = (omega arith, omega arith)
+front-row (FrontRefused.by-row f (by-4 x y)) = (omega arith, omega arith)
+front-row (FrontRefused.by-row f (by-5 x y z)) = (omega arith, omega arith)
+
 after-row : {earlier : List Row} {text : List ℕ} {o : Rows} → After earlier text o → OfRow o
 after-row After.done = tt
-after-row (After.refused1 n) = (omega arith, omega arith)
-after-row (After.refused2 b l n) = (omega arith, omega arith)
-after-row (After.refused3 r i b p) = (omega arith, omega arith)
-after-row (After.refused4 r i b n p) = (omega arith, omega arith)
-after-row (After.refused5 r i b n m p) = (omega arith, omega arith)
-after-row (After.next r i b p a) = after-row a
+after-row (After.stopped h x) = front-row x
+after-row (After.next f p a) = after-row a
 
 of-row : {text : List ℕ} {o : Rows} → Of text o → OfRow o
 of-row (Of.wrong-length l) = (omega arith, omega arith)

@@ -17,8 +17,8 @@ use Rattle.terms.specs.declared.refusal.Refusal.{Refusal}
 use Rattle.tables.specs.declared.Mode.{Mode}
 use Rattle.tables.specs.declared.Table.{Table}
 use Rattle.tables.specs.Shape.{Active, modeAt, emptyTable}
-use Rattle.table.specs.declared.Answer.the-variants.{Refused as NotRead}
-use Rattle.table.specs.Told.{Told}
+use Rattle.reader.specs.declared.Answer.the-variants.{Refused as NotRead}
+use Rattle.reader.specs.Told.{Told}
 use Rattle.graph.specs.Ends.{Ends}
 use Rattle.graph.specs.Balance.{Smallest, Iteration, firingsOf}
 use Rattle.graph.specs.Load.{Overloaded}

@@ -1,13 +1,16 @@
 -- A claim holds where it is what is reckoned of the table. Assumes nothing.
 use mathlib.Core.Path.{_≡_, refl, ap, ap₂, subst, subst₂, _∙_}
+use mathlib.Core.Bool.{Bool, _&&_}
 use mathlib.Core.List.{List, [], _∷_, _++_, map}
+use mathlib.Core.Logic.{Iff·rfl}
 use Prim.Native.Nat.{ℕ, zero, suc, _-_}
-use lib.Dec.{T, ltb, ltb→lt}
+use lib.Dec.{T, leb, ltb, ltb→lt, leb→le}
 use lib.ListN.{length, getD, replicate}
+use Rattle.numbers.specs.Decides.{decides-and}
 use Rattle.numbers.specs.Every.{Every}
 use Rattle.numbers.specs.Fraction.{Same}
 use Rattle.numbers.specs.Tab.{getD-replicated}
-use Rattle.units.specs.Limits.{MODES, ACTORS}
+use Rattle.units.specs.Limits.{MODES, ACTORS, MOST-BYTES}
 use Rattle.units.specs.declared.Tick.{Tick}
 use Rattle.units.specs.Ticks.{tick}
 use Rattle.terms.specs.Refusal.{lineOf, printedOf}
@@ -16,11 +19,9 @@ use Rattle.tables.specs.declared.Mode.{Mode}
 use Rattle.tables.specs.declared.Table.{Table}
 use Rattle.tables.specs.Shape.{modeAt}
 use Rattle.tables.specs.Proper.{ProperMode, ProperTable}
-use Rattle.table.specs.Told.{Outcome, rows, refused, Of, tableOf}
-use Rattle.table.specs.Rows.{Row}
-use Rattle.table.specs.Judge.{readOf}
-use Rattle.table.proofs.Telling.{reads-of}
-use Rattle.table.proofs.Again.{reads-proper}
+use Rattle.reader.specs.Told.{rows, tableOf}
+use Rattle.reader.proofs.Again.{reads-proper}
+use Rattle.reader.proofs.Computed.{rowsIn, readsb, reads-rows}
 use Rattle.graph.specs.declared.Verdict.the-variants.{Sound}
 use Rattle.graph.specs.declared.Judgement.{Judgement}
 use Rattle.graph.specs.Judged.{Judged}
@@ -49,22 +50,17 @@ use Rattle.marked.specs.Lines.{Claim, prints, refuses, starts, loads, an
 use Rattle.marked.proofs.Reckoned.{answerOf, answersOf, wholeOf, whole-planned, first-refused}
 use Rattle.marked.proofs.Told.{Tells, begun-answers}
 
--- the rows of a text that is read
-abbrev IsRead : Outcome → Type 0
-IsRead (rows rs) = Unit {0}
-IsRead (refused n r) = ⊥
-
-abbrev rowsIn : Outcome → List Row
-rowsIn (rows rs) = rs
-rowsIn (refused n r) = []
+-- the text is read: it passes the test by computing, and is neither empty nor too long
+abbrev IsRead : List ℕ → Type 0
+IsRead text = T (readsb text && (ltb 0 (length text) && leb (length text) MOST-BYTES))
 
 -- the table of a text
 abbrev pub tableIn : List ℕ → Table
-tableIn text = tableOf (rowsIn (readOf text))
+tableIn text = tableOf (rowsIn text)
 
 -- the text is read, and no mode of its table is refused
 abbrev Passes : List ℕ → Type 0
-Passes text = IsRead (readOf text) × (answersOf (tableIn text) ≡ replicate MODES IsPlanned)
+Passes text = IsRead text × (answersOf (tableIn text) ≡ replicate MODES IsPlanned)
 
 -- an answer that refuses, with these five numbers
 abbrev Refuses : Answer → Five → Type 0
@@ -78,9 +74,9 @@ startsIn m = startsOf m (judgeOf m .periods) (judgeOf m .depths)
 -- what is to be reckoned for a claim
 abbrev pub Right : List ℕ → Claim → Type 0
 Right text (prints ls) = Passes text × (planText (tableIn text) (wholeOf (tableIn text)) ≡ textOf ls)
-Right text (refuses n row m a q) = IsRead (readOf text) × Refuses (answerOf (modeAt (tableIn text) 0) 1) (lineOf n row m a q)
+Right text (refuses n row m a q) = IsRead text × Refuses (answerOf (modeAt (tableIn text) 0) 1) (lineOf n row m a q)
 Right text (starts n ss) =
-    IsRead (readOf text)
+    IsRead text
     × T (ltb (n - 1) MODES)
     × (judgeOf (modeAt (tableIn text) (n - 1)) .verdict ≡ Sound)
     × (startsIn (modeAt (tableIn text) (n - 1)) ≡ map tick ss ++ replicate (ACTORS - length ss) (tick 0))
@@ -93,6 +89,9 @@ Right text (answers n qs) =
     × T (isListed (tableIn text) n)
     × Tells (planOf (tableIn text) (wholeOf (tableIn text))) (machine (Run.begin (planOf (tableIn text) (wholeOf (tableIn text))) n .now)) qs
 
+both : (x y : Bool) → T (x && y) → T x × T y
+both x y h = decides-and x y Iff·rfl Iff·rfl .0 h
+
 -- starts, with 0 behind them
 starts-at : (ss : List ℕ) (n i : ℕ) → getD (map tick ss ++ replicate n (tick 0)) i (tick 0) ≡ tick (getD ss i 0)
 starts-at [] n i = getD-replicated n i (tick 0)
@@ -101,14 +100,13 @@ starts-at (s ∷ ss) n (suc i) = starts-at ss n i
 
 -- a text reads as its table, which is proper and has the plan that is reckoned
 module _ (text : List ℕ) where
-  reads : IsRead (readOf text) → Reads text (tableIn text)
-  reads h = go (readOf text) (reads-of text) h
-    where
-      go : (o : Outcome) → Of text o → IsRead o → Reads text (tableOf (rowsIn o))
-      go (rows rs) of h = (rows rs, of, refl)
-      go (refused n r) of h = absurd h
+  reads : IsRead text → Reads text (tableIn text)
+  reads h =
+      let (r, l) = both (readsb text) (ltb 0 (length text) && leb (length text) MOST-BYTES) h in
+      let (some, few) = both (ltb 0 (length text)) (leb (length text) MOST-BYTES) l in
+      (rows (rowsIn text), reads-rows text r (ltb→lt 0 (length text) some) (leb→le (length text) MOST-BYTES few), refl)
 
-  proper : IsRead (readOf text) → ProperTable (tableIn text)
+  proper : IsRead text → ProperTable (tableIn text)
   proper h = reads-proper text (tableIn text) (reads h)
 
   planned : Passes text → Planned (tableIn text) (wholeOf (tableIn text))
@@ -142,7 +140,7 @@ judged-starts m ss z proper e f j x =
     same i = ap (λ (l : List Tick). getD l i (tick 0)) f ∙ starts-at ss z i
 
 -- whatever is answered to a text whose mode 1 is refused, it is that refusal
-refused-is : (text : List ℕ) (n row m a q : ℕ) → IsRead (readOf text) → (x : Answer) → answerOf (modeAt (tableIn text) 0) 1 ≡ x → Refuses x (lineOf n row m a q)
+refused-is : (text : List ℕ) (n row m a q : ℕ) → IsRead text → (x : Answer) → answerOf (modeAt (tableIn text) 0) 1 ≡ x → Refuses x (lineOf n row m a q)
     → Claimed text (refuses n row m a q)
 refused-is text n row m a q r IsPlanned f e = absurd e
 refused-is text n row m a q r (IsRefused x) f e = λ before after y l s.

@@ -1,10 +1,11 @@
 -- What is printed of P8, whose numbers are large. Assumes nothing.
-use mathlib.Core.Path.{_≡_, refl, sym, _∙_}
+use mathlib.Core.Path.{_≡_, refl, _∙_}
 use mathlib.Core.List.{List, [], _∷_, _++_, append-nil}
 use Prim.Native.Nat.{ℕ}
 use lib.ListN.{getD}
 use Rattle.numbers.specs.Bits.{bit}
 use Rattle.numbers.specs.Extreme.{mostOf}
+use Rattle.numbers.specs.Padded.{padded}
 use Rattle.numbers.specs.Sum.{sum}
 use Rattle.numbers.specs.Tab.{tab}
 use Rattle.numbers.specs.Lowest.{lowestOr}
@@ -13,11 +14,8 @@ use Rattle.units.specs.Limits.{MODES, ACTORS}
 use Rattle.terms.specs.Text.{bytes}
 use Rattle.csv.specs.Writing.{joined}
 use Rattle.csv.proofs.Decimals.{numeral-is}
-use Rattle.table.specs.Bytes.{classOf}
-use Rattle.table.specs.Digits.{digitOf, digits, written, numberOf, wordLen, ratesFrom, ratesOf}
-use Rattle.table.specs.Judge.{same, actorOf, channelOf, parsedOf, actorListed, channelListed, listed, homesOf, zeros, readFrom, readOf}
-use Rattle.table.specs.Scan.{plainLen, closed, cellOf, pastComma, pastEnd, cellsFrom}
-use Rattle.table.specs.Told.{tableOf}
+use Rattle.reader.specs.Told.{tableOf}
+use Rattle.reader.proofs.Computed.{rowsIn}
 use Rattle.graph.specs.Rounds.{predsFrom, roundFrom, orderFrom, chosen, giversFrom}
 use Rattle.graph.specs.Counts.{entriesFrom, stays, fedOf, countsFrom, balancesb}
 use Rattle.graph.specs.Lengths.{mostFrom, commonFrom, shareFrom}
@@ -49,7 +47,7 @@ abbrev actorLine : ℕ → ℕ → ℕ → ℕ → List ℕ
 actorLine i q t s = lineText (bytes "actor") (five 1 i q t s)
 
 printed-lines : planText (tableIn text) (wholeOf (tableIn text)) ≡ inOne (actorLine 1 1 16777216 0) (actorLine 2 16 1048576 16777216) (lineText (bytes "channel") (five 1 1 2 32 16))
-unfolding bit sum tab lowestOr gcdFrom mostOf readOf readFrom cellsFrom cellOf plainLen closed pastComma pastEnd classOf parsedOf actorOf channelOf same numberOf written digits digitOf ratesOf ratesFrom wordLen listed actorListed channelListed zeros homesOf tableOf predsFrom roundFrom orderFrom chosen giversFrom entriesFrom stays fedOf countsFrom balancesb mostFrom commonFrom shareFrom timedOf balancedOf judgeOf startOf sizeOf depthFrom startsFrom scheduleOf answerOf partFor texts
+unfolding bit sum tab lowestOr gcdFrom mostOf rowsIn tableOf padded predsFrom roundFrom orderFrom chosen giversFrom entriesFrom stays fedOf countsFrom balancesb mostFrom commonFrom shareFrom timedOf balancedOf judgeOf startOf sizeOf depthFrom startsFrom scheduleOf answerOf partFor texts
 printed-lines = refl
 
 written-lines : (actorLine 1 1 16777216 0 ++ actorLine 2 16 1048576 16777216) ++ lineText (bytes "channel") (five 1 1 2 32 16)

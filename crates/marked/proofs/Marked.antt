@@ -4,17 +4,16 @@ use Rattle.numbers.specs.Bits.{bit}
 use Rattle.numbers.specs.Every.{Every}
 use Rattle.numbers.specs.Extreme.{mostOf}
 use Rattle.numbers.specs.Fraction.{sumOf}
+use Rattle.numbers.specs.Padded.{padded}
 use Rattle.numbers.specs.Sum.{sum}
 use Rattle.numbers.specs.Tab.{tab}
 use Rattle.numbers.specs.Lowest.{lowestOr}
 use Rattle.numbers.specs.Reckoned.{gcdFrom}
 use Rattle.csv.specs.Decimal.{writing, written as writtenOut, decimal}
 use Rattle.csv.specs.Writing.{joined}
-use Rattle.table.specs.Bytes.{classOf}
-use Rattle.table.specs.Digits.{digitOf, digits, written, numberOf, wordLen, ratesFrom, ratesOf}
-use Rattle.table.specs.Judge.{same, actorOf, channelOf, parsedOf, actorListed, channelListed, listed, homesOf, zeros, readFrom, readOf}
-use Rattle.table.specs.Scan.{plainLen, closed, cellOf, pastComma, pastEnd, cellsFrom}
-use Rattle.table.specs.Told.{tableOf}
+use Rattle.reader.specs.Rows.{channels}
+use Rattle.reader.specs.Told.{tableOf}
+use Rattle.reader.proofs.Computed.{rowsIn, readsb}
 use Rattle.graph.specs.Rounds.{predsFrom, roundFrom, orderFrom, chosen, giversFrom}
 use Rattle.graph.specs.Counts.{entriesFrom, stays, fedOf, countsFrom, balancesb}
 use Rattle.graph.specs.Lengths.{mostFrom, commonFrom, shareFrom}
@@ -36,7 +35,7 @@ _&_ : {A B : Type 0} → A → B → A × B
 a & b = (a, b)
 
 pub marked : Every Holds lines
-unfolding lines Tells bit sum sumOf tab lowestOr gcdFrom mostOf readOf readFrom cellsFrom cellOf plainLen closed pastComma pastEnd classOf parsedOf actorOf channelOf same numberOf written digits digitOf ratesOf ratesFrom wordLen listed actorListed channelListed zeros homesOf tableOf predsFrom roundFrom orderFrom chosen giversFrom entriesFrom stays fedOf countsFrom balancesb mostFrom commonFrom shareFrom timedOf balancedOf judgeOf startOf sizeOf depthFrom startsFrom scheduleOf answerOf partFor texts lineText joined decimal writtenOut writing refusal
+unfolding lines Tells bit sum sumOf tab lowestOr gcdFrom mostOf rowsIn readsb channels tableOf padded predsFrom roundFrom orderFrom chosen giversFrom entriesFrom stays fedOf countsFrom balancesb mostFrom commonFrom shareFrom timedOf balancedOf judgeOf startOf sizeOf depthFrom startsFrom scheduleOf answerOf partFor texts lineText joined decimal writtenOut writing refusal
 marked =
     all-hold lines
     (((tt, refl), refl)

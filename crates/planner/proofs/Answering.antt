@@ -9,11 +9,11 @@ use Rattle.terms.specs.declared.refusal.Refusal.{Refusal}
 use Rattle.tables.specs.declared.Table.{Table}
 use Rattle.tables.specs.Proper.{ProperTable}
 use Rattle.tables.specs.Shape.{modeAt, emptyTable}
-use Rattle.table.specs.declared.Reading.{Reading}
-use Rattle.table.specs.declared.Answer.{Answer as ReadAnswer}
-use Rattle.table.specs.declared.Answer.the-variants.{Read, Refused as NotRead}
-use Rattle.table.specs.Told.{Outcome as Rows, rows, refused as rows-refused, Of, readingOf, Told}
-use Rattle.table.proofs.Again.{told-one}
+use Rattle.reader.specs.declared.Reading.{Reading}
+use Rattle.reader.specs.declared.Answer.{Answer as ReadAnswer}
+use Rattle.reader.specs.declared.Answer.the-variants.{Read, Refused as NotRead}
+use Rattle.reader.specs.Told.{Outcome as Rows, rows, refused as rows-refused, Of, readingOf, Told}
+use Rattle.reader.proofs.Again.{told-one}
 use Rattle.whole.specs.declared.Whole.{Whole}
 use Rattle.whole.specs.declared.Outcome.{Outcome}
 use Rattle.whole.specs.declared.Answer.{Answer as WholeAnswer}

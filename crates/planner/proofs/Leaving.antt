@@ -8,9 +8,9 @@ use lib.ListN.{length}
 use Rattle.numbers.specs.Decides.{Decides, decides-yes, decides-no}
 use Rattle.tables.specs.declared.Table.{Table}
 use Rattle.tables.specs.Proper.{ProperTable}
-use Rattle.table.specs.declared.Reading.{Reading}
-use Rattle.table.specs.Writing.{written}
-use Rattle.table.proofs.Again.{written-reads, reads-proper, told-one}
+use Rattle.reader.specs.declared.Reading.{Reading}
+use Rattle.reader.specs.Writing.{written}
+use Rattle.reader.proofs.Again.{written-reads, reads-proper, told-one}
 use Rattle.whole.specs.declared.Whole.{Whole}
 use Rattle.whole.specs.Whole.{Planned}
 use Rattle.whole.proofs.Unique.{plan-unique}

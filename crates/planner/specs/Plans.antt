@@ -9,8 +9,8 @@ use Rattle.terms.specs.declared.refusal.Place.the-variants.{Nowhere}
 use Rattle.terms.specs.declared.refusal.Refusal.{Refusal}
 use Rattle.tables.specs.declared.Table.{Table}
 use Rattle.tables.specs.Shape.{emptyTable}
-use Rattle.table.specs.declared.Answer.the-variants.{Read, Refused as NotRead}
-use Rattle.table.specs.Told.{Told}
+use Rattle.reader.specs.declared.Answer.the-variants.{Read, Refused as NotRead}
+use Rattle.reader.specs.Told.{Told}
 use Rattle.whole.specs.declared.Whole.{Whole}
 use Rattle.whole.specs.declared.Answer.the-variants.{Refused as NotPlanned}
 use Rattle.whole.specs.Whole.{emptyWhole, Planned, Planning}

@@ -47,9 +47,9 @@ pub fn plan(text: &[u8], words: &mut [u64]) -> Answer
     if words.len() != WORDS {
         return Answer::Refused(no_plan());
     }
-    let reading = table::read(text);
+    let reading = reader::read(text);
     let read = reading.answer;
-    if let table::Answer::Refused(refusal) = read {
+    if let reader::Answer::Refused(refusal) = read {
         return Answer::Refused(refusal);
     }
     let table = reading.table;

@@ -3,7 +3,7 @@ use borrow.Author.Needs.{needs}
 use mathlib.Core.Path.{sym, subst}
 use denote.Ref.{now}
 use Rattle.terms.specs.declared.refusal.Refusal.{Refusal}
-use Rattle.table.proofs.Again.{reads-proper}
+use Rattle.reader.proofs.Again.{reads-proper}
 use Rattle.planner.specs.declared.Answer.the-variants.{Accepted, Refused}
 use Rattle.planner.specs.Plans.{Reads, Plans, wrong-length, not-read, not-planned, accepted}
 use Rattle.planner.proofs.Answering.{told-read, told-refused, planning-planned, planning-refused}

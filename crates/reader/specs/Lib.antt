@@ -1,0 +1,6 @@
+-- The rules of a table's text: its rows, when one is refused, what is told of a whole text; and how a table is written.
+pub mod Rows
+pub mod Told
+pub mod Writing
+pub mod Lines
+pub mod Checks
