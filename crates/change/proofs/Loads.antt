@@ -23,7 +23,7 @@ use Rattle.period.specs.Period.{workOf, partOf}
 use Rattle.tables.specs.declared.Actor.{Actor}
 use Rattle.change.specs.declared.Running.{Running}
 use Rattle.change.specs.Work.{Fitting, actorAt, firingsAt, tickAt, between, countedOf, workBetween}
-use Rattle.change.specs.Change.{actorIn, startOf, askedBy, isOn, askedOf, Ready}
+use Rattle.change.specs.Running.{actorIn, startOf, askedBy, isOn, askedOf, Ready}
 
 -- works of actors within their ranges are summed within 64 bits
 pub work-fits : (actors : List Actor) (firings : List Firing) (starts : List Tick) → Fitting actors firings starts → (p : ℕ) (a b : Tick) (k : ℕ) → k < ACTORS

@@ -21,7 +21,7 @@ use Rattle.units.specs.declared.Tick.{Tick}
 use Rattle.period.specs.Period.{partOf}
 use Rattle.change.specs.declared.Running.{Running}
 use Rattle.change.specs.Work.{tickAt}
-use Rattle.change.specs.Change.{Runs, actorIn, startOf, askedOf, loadAt, Bearable, Bears, Overlap, Offset, Ready}
+use Rattle.change.specs.Running.{Runs, actorIn, startOf, askedOf, loadAt, Bearable, Bears, Overlap, Offset, Ready}
 use Rattle.change.specs.Waits.{Part, leadOf, overlapOf, oldSide, newSide, waitOf, pairWait, offsetFrom}
 use Rattle.change.proofs.Loads.{workIn, work-within, FromFirst, work-first, ToLast, work-last, work-nowhere, asked-proper, asked-work}
 

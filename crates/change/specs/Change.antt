@@ -1,103 +1,95 @@
 -- The rules of a change: overlap, offset and worst delay.
 use mathlib.Core.Path.{_≡_, refl, sym, ap, subst, _∙_}
 use mathlib.Core.Bool.{Bool, true, cond, _&&_}
+use mathlib.Core.List.{List}
 use mathlib.Core.Logic.{_⊎_, inr}
-use Prim.Native.Nat.{ℕ, _+_, _-_, _*_, _≤_, _<_}
+use Prim.Native.Nat.{ℕ, _+_, _-_, _≤_, _<_}
 use native.Mathlib.Omega.{arith}
 use lib.Dec.{eqb, leb, ltb}
+use lib.ListN.{getD}
 use Rattle.numbers.specs.Bits.{Has, hasb}
 use Rattle.numbers.specs.Extreme.{Least, Greatest, least-unique, greatest-unique}
 use Rattle.numbers.specs.Fraction.{AtMost, plus, sumOf, nothing}
 use Rattle.numbers.specs.declared.fraction.Fraction.{Fraction}
-use Rattle.units.specs.Bounds.{MOST-START}
-use Rattle.units.specs.Limits.{ACTORS, PROCESSORS, ITERATION-LIMIT, LOAD-LIMIT}
+use Rattle.units.specs.Limits.{ACTORS, PROCESSORS, LOAD-LIMIT}
 use Rattle.units.specs.Ticks.{tick}
 use Rattle.units.specs.declared.Tick.{Tick}
 use Rattle.period.specs.Period.{partOf}
 use Rattle.tables.specs.declared.Actor.{Actor}
 use Rattle.tables.specs.Shape.{noActor}
-use Rattle.tables.specs.Proper.{ProperActor}
-use Rattle.change.specs.declared.Running.{Running}
 use Rattle.change.specs.declared.Timing.{Timing}
-use Rattle.change.specs.Work.{actorAt, firingsAt, tickAt, sincesOf, untilsOf}
+
+-- a mode and what is planned of it: its actors, their periods and starts, its iteration, and the end of its start-up
+pub record ModeTimes : Type 0 where
+  pub active : ℕ
+  pub actors : List Actor
+  pub iteration : Tick
+  pub periods : List Tick
+  pub starts : List Tick
+  pub startup : Tick
 
 -- actor i runs in the mode
-abbrev pub Runs : Running → ℕ → Type 0
+abbrev pub Runs : ModeTimes → ℕ → Type 0
 Runs r i = (i < ACTORS) × Has (r .active) i
 
 -- what it is, and its start
-abbrev pub actorIn : Running → ℕ → Actor
-actorIn r i = actorAt (r .actors) i
+abbrev pub actorIn : ModeTimes → ℕ → Actor
+actorIn r i = getD (r .actors) i noActor
 
-abbrev pub startOf : Running → ℕ → ℕ
-startOf r i = tickAt (r .starts) i .0
+abbrev pub startOf : ModeTimes → ℕ → ℕ
+startOf r i = getD (r .starts) i (tick 0) .0
 
 -- what it asks of its processor: wcet / T
-abbrev pub askedBy : Running → ℕ → Fraction
-askedBy r i = partOf (actorIn r i .wcet) (tickAt (r .periods) i)
+abbrev pub askedBy : ModeTimes → ℕ → Fraction
+askedBy r i = partOf (actorIn r i .wcet) (getD (r .periods) i (tick 0))
 
 -- Overlap: the greatest of 0 and S(old) - S(new), over the actors in both modes.
-abbrev pub Overlap : Running → Running → Tick → Type 0
+abbrev pub Overlap : ModeTimes → ModeTimes → Tick → Type 0
 Overlap old new x = Greatest (λ v. (v ≡ 0) ⊎ ((i : ℕ) × Runs old i × Runs new i × (v ≡ startOf old i - startOf new i))) (x .0)
 
 -- actor i runs on processor p
-abbrev pub isOn : Running → ℕ → ℕ → Bool
+abbrev pub isOn : ModeTimes → ℕ → ℕ → Bool
 isOn r p i = hasb (r .active) i && eqb (actorIn r i .processor) p
 
 -- what those actors of a mode ask together of processor p that count
-abbrev pub askedOf : Running → ℕ → (ℕ → Bool) → Fraction
+abbrev pub askedOf : ModeTimes → ℕ → (ℕ → Bool) → Fraction
 askedOf r p counts = sumOf (λ i. cond (isOn r p i && counts i) (askedBy r i) nothing) ACTORS
 
 -- a mode by itself asks of no processor more than the limit
-abbrev pub Bearable : Fraction → Running → Type 0
+abbrev pub Bearable : Fraction → ModeTimes → Type 0
 Bearable limit r = (p : ℕ) → 1 ≤ p → p ≤ PROCESSORS → AtMost (askedOf r p (λ i. true)) limit
 
 -- the load of processor p at tick k of the change, with offset d: an old actor counts while k is below its start, a new one once k is at least d + its start
-abbrev pub loadAt : Running → Running → ℕ → ℕ → ℕ → Fraction
+abbrev pub loadAt : ModeTimes → ModeTimes → ℕ → ℕ → ℕ → Fraction
 loadAt old new d k p = plus (askedOf old p (λ i. ltb k (startOf old i))) (askedOf new p (λ i. leb (d + startOf new i) k))
 
 -- with offset d each processor's load is at most the limit, at every tick from d to the end of the old mode's start-up
-abbrev pub Bears : Fraction → Running → Running → ℕ → Type 0
+abbrev pub Bears : Fraction → ModeTimes → ModeTimes → ℕ → Type 0
 Bears limit old new d = (k p : ℕ) → d ≤ k → k ≤ old .startup .0 → 1 ≤ p → p ≤ PROCESSORS → AtMost (loadAt old new d k p) limit
 
 -- Offset: the least tick count from the overlap to the end of the old mode's start-up that has this.
-abbrev pub Offset : Fraction → Running → Running → Tick → Tick → Type 0
+abbrev pub Offset : Fraction → ModeTimes → ModeTimes → Tick → Tick → Type 0
 Offset limit old new x d = Least (λ n. (x .0 ≤ n) × (n ≤ old .startup .0) × Bears limit old new n) (d .0)
 
 -- Worst delay: the offset, the start-up of the new mode, and an iteration of the old one less a tick.
-abbrev pub worstOf : Running → Running → Tick → Tick
+abbrev pub worstOf : ModeTimes → ModeTimes → Tick → Tick
 worstOf old new d = tick (d .0 + new .startup .0 + old .iteration .0 - 1)
 
-pub record Changes (old new : Running) (r : Timing) : Type 0 where
+pub record Changes (old new : ModeTimes) (r : Timing) : Type 0 where
   pub overlap : Overlap old new (r .overlap)
   pub offset : Offset LOAD-LIMIT old new (r .overlap) (r .offset)
   pub worst : r .worst ≡ worstOf old new (r .offset)
 
--- A mode that is planned: its actors in their ranges, their firings and periods fill the iteration, none starts after the end of the start-up,
--- no processor is asked for more than the limit, and its works are summed.
-pub record Ready (r : Running) : Type 0 where
-  pub actor : (i : ℕ) → Runs r i → ProperActor (actorIn r i)
-  pub no-actor : (i : ℕ) → i < ACTORS → (Has (r .active) i → ⊥) → actorIn r i ≡ noActor
-  pub period : (i : ℕ) → Runs r i → 0 < tickAt (r .periods) i .0
-  pub whole : (i : ℕ) → Runs r i → firingsAt (r .firings) i .0 * tickAt (r .periods) i .0 ≡ r .iteration .0
-  pub start : (i : ℕ) → i < ACTORS → startOf r i ≤ r .startup .0
-  pub startup : r .startup .0 ≤ MOST-START .0
-  pub some-tick : 0 < r .iteration .0
-  pub iteration : r .iteration .0 ≤ ITERATION-LIMIT .0
-  pub load : Bearable LOAD-LIMIT r
-  pub since : r .since ≡ sincesOf (r .actors) (r .firings) (r .starts) (r .startup)
-  pub until : r .until ≡ untilsOf (r .actors) (r .firings) (r .starts)
-
 -- an actor in both modes starts anew only once it has ended
-pub starts-after : (old new : Running) {r : Timing} → Changes old new r → (i : ℕ) → Runs old i → Runs new i → startOf old i ≤ r .offset .0 + startOf new i
+pub starts-after : (old new : ModeTimes) {r : Timing} → Changes old new r → (i : ℕ) → Runs old i → Runs new i → startOf old i ≤ r .offset .0 + startOf new i
 starts-after old new {r} p i a b =
     omega (arith, p .overlap .greatest (startOf old i - startOf new i) (inr (i, a, b, refl)), p .offset .holds .0)
 
 -- one offset, and one change
-pub offset-unique : (limit : Fraction) (old new : Running) (x : Tick) {d e : Tick} → Offset limit old new x d → Offset limit old new x e → d ≡ e
+pub offset-unique : (limit : Fraction) (old new : ModeTimes) (x : Tick) {d e : Tick} → Offset limit old new x d → Offset limit old new x e → d ≡ e
 offset-unique limit old new x p q = λ i. tick (least-unique _ p q i)
 
-pub changes-unique : (old new : Running) {r s : Timing} → Changes old new r → Changes old new s → r ≡ s
+pub changes-unique : (old new : ModeTimes) {r s : Timing} → Changes old new r → Changes old new s → r ≡ s
 changes-unique old new {r} {s} p q =
     let x : r .overlap ≡ s .overlap = λ i. tick (greatest-unique _ (p .overlap) (q .overlap) i) in
     let d : r .offset ≡ s .offset =

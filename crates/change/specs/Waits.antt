@@ -14,7 +14,7 @@ use Rattle.period.specs.Period.{partOf}
 use Rattle.change.specs.declared.Running.{Running}
 use Rattle.change.specs.declared.wait.Side.{Side}
 use Rattle.change.specs.Work.{tickAt}
-use Rattle.change.specs.Change.{actorIn, startOf}
+use Rattle.change.specs.Running.{actorIn, startOf}
 
 -- a part of an iteration
 pub record Part (a : Fraction) : Type 0 where

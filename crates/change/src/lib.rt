@@ -12,7 +12,8 @@ use units::Tick;
 use units::limits::ACTORS;
 ghost use mathlib.Core.Path.{_≡_};
 ghost use Rattle.change.specs.Work.{Fitting, preparedOf};
-ghost use Rattle.change.specs.Change.{Ready, Changes};
+ghost use Rattle.change.specs.Change.{Changes};
+ghost use Rattle.change.specs.Running.{timesIn, Ready};
 
 // A mode as it runs: its active actors, their firings, periods and starts, its iteration, and the tick at which its start-up ends.
 // Of each actor's processor: the work in an iteration of the actors that start no earlier than this one, and of those that start no later.
@@ -64,7 +65,7 @@ pub fn prepare(
 // The change from one mode to another.
 pub fn change(old: Running, new: Running) -> Timing
     requires { ⌜ Ready old × Ready new ⌝ }
-    ensures { λ r. ⌜ Changes old new r ⌝ }
+    ensures { λ r. ⌜ Changes (timesIn old) (timesIn new) r ⌝ }
 {
     let overlap = overlap_of(old, new);
     let offset = overlap.greater(offset_of(old, new));

@@ -9,7 +9,7 @@ use units::limits::ACTORS;
 use units::limits::LOAD_LIMIT;
 ghost use mathlib.Core.Path.{_≡_};
 ghost use Rattle.units.specs.Limits.{LOAD-LIMIT};
-ghost use Rattle.change.specs.Change.{Ready};
+ghost use Rattle.change.specs.Running.{Ready};
 ghost use Rattle.change.specs.Waits.{Part, overlapOf, waitOf, offsetFrom};
 
 // The greatest of 0 and the starts less the new ones, over the actors in both modes.

@@ -3,16 +3,17 @@ use mathlib.Core.Path.{_≡_, refl, sym, ap, ap₂, subst, _∙_}
 use mathlib.Core.Bool.{Bool, true, false, _&&_}
 use mathlib.Core.List.{List, [], _∷_, _++_, append-assoc, append-nil}
 use Prim.Native.Nat.{ℕ, _+_, _-_, _*_, _/_, _%_, _≤_, _<_}
+use native.Mathlib.Nat.{le-refl}
 use native.Mathlib.Omega.{arith}
 use lib.Dec.{ltb, leb}
 use lib.ListN.{length, length-append}
 use borrow.Author.Tests.{ltb-true, leb-true}
 use Rattle.numbers.specs.Every.{Every, every-append, every-weaker}
-use Rattle.csv.specs.Decimal.{Writes, writing, written, decimal, IsDigit}
+use Rattle.csv.specs.Decimal.{Writes, writing, writing-writes, decimal, IsDigit}
 
 pub decimal-writes : (n : ℕ) → Writes n (decimal n)
 unfolding decimal
-decimal-writes n = written n .1
+decimal-writes n = writing-writes n n (le-refl n)
 
 -- a number has a digit
 pub writes-some : {n : ℕ} {s : List ℕ} → Writes n s → 0 < length s
@@ -141,5 +142,5 @@ zero-alone (Writes.longer {s = x ∷ y ∷ s} pos w h) c t e = let z : x ≡ 48 
 
 -- some texts
 some-texts : (decimal 0 ≡ 48 ∷ []) × (decimal 7 ≡ 55 ∷ []) × (decimal 10 ≡ 49 ∷ 48 ∷ []) × (decimal 255 ≡ 50 ∷ 53 ∷ 53 ∷ []) × (decimal 4096 ≡ 52 ∷ 48 ∷ 57 ∷ 54 ∷ [])
-unfolding decimal written writing
+unfolding decimal writing
 some-texts = (refl, refl, refl, refl, refl)

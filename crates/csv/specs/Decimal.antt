@@ -3,7 +3,6 @@ use mathlib.Core.Path.{_≡_, refl, subst}
 use mathlib.Core.Bool.{Bool, true, false, cond}
 use mathlib.Core.List.{List, [], _∷_, _++_}
 use Prim.Native.Nat.{ℕ, zero, suc, _+_, _*_, _/_, _%_, _≤_, _<_}
-use native.Mathlib.Nat.{le-refl}
 use native.Mathlib.Omega.{arith}
 use lib.Dec.{ltb}
 use borrow.Author.Tests.{ltb-true, ltb-false}
@@ -18,6 +17,21 @@ unfoldable pub writing : ℕ → ℕ → List ℕ
 writing zero n = (48 + n) ∷ []
 writing (suc k) n = cond (ltb n 10) ((48 + n) ∷ []) (writing k (n / 10) ++ ((48 + n % 10) ∷ []))
 
+-- the text that writes n
+unfoldable pub decimal : ℕ → List ℕ
+decimal n = writing n n
+
+-- numbers parted by one space
+unfoldable pub spaced : List ℕ → List ℕ
+spaced [] = []
+spaced (x ∷ []) = decimal x
+spaced (x ∷ y ∷ ys) = decimal x ++ (32 ∷ spaced (y ∷ ys))
+
+-- the bytes of the ten digits
+abbrev pub IsDigit : ℕ → Type 0
+IsDigit b = (48 ≤ b) × (b < 58)
+
+-- each number has a text, and this is it
 pub writing-writes : (k n : ℕ) → n ≤ k → Writes n (writing k n)
 unfolding writing
 writing-writes zero n h = Writes.digit {d = n} (omega arith)
@@ -30,21 +44,3 @@ writing-writes (suc k) n h = go (ltb n 10) refl (writing-writes k (n / 10))
         let l : 10 ≤ n = ltb-false n 10 e in
         let m : n / 10 * 10 + n % 10 ≡ n = omega arith in
         subst (λ (x : ℕ). Writes x (writing k (n / 10) ++ ((48 + n % 10) ∷ []))) m (Writes.longer (omega arith) (ih (omega arith)) (omega arith))
-
--- each number has a text
-unfoldable pub written : (n : ℕ) → (s : List ℕ) × Writes n s
-written n = (writing n n, writing-writes n n (le-refl n))
-
--- the text that writes n
-unfoldable pub decimal : ℕ → List ℕ
-decimal n = written n .0
-
--- numbers parted by one space
-unfoldable pub spaced : List ℕ → List ℕ
-spaced [] = []
-spaced (x ∷ []) = decimal x
-spaced (x ∷ y ∷ ys) = decimal x ++ (32 ∷ spaced (y ∷ ys))
-
--- the bytes of the ten digits
-abbrev pub IsDigit : ℕ → Type 0
-IsDigit b = (48 ≤ b) × (b < 58)

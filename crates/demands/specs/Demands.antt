@@ -27,7 +27,7 @@ use Rattle.schedule.specs.Scheduled.{SizeOn, ofChannels, tokensOn}
 use Rattle.change.specs.Change.{Changes}
 use Rattle.whole.specs.declared.Part.{Part}
 use Rattle.whole.specs.declared.Whole.{Whole}
-use Rattle.whole.specs.Whole.{partAt, changeAt, runningOf, Listed, Leads, ModePlanned, ModeRefused, Planned}
+use Rattle.whole.specs.Whole.{partAt, changeAt, timesOf, Listed, Leads, ModePlanned, ModeRefused, Planned}
 use Rattle.run.specs.Machine as Run
 use Rattle.run.specs.Demand as Run′
 use Rattle.planned.specs.Plan.{isListed, planOf}
@@ -95,7 +95,7 @@ pub record ModeRight (m : Mode) (p : Part) : Type 0 where
 -- and of every mode and every change of a table
 pub record Right (t : Table) (w : Whole) : Type 0 where
   pub modes : (k : ℕ) → Listed t k → ModeRight (modeAt t k) (partAt w k)
-  pub changes : (k l : ℕ) → Leads t k l → Changes (runningOf (modeAt t k) (partAt w k)) (runningOf (modeAt t l) (partAt w l)) (changeAt w k l)
+  pub changes : (k l : ℕ) → Leads t k l → Changes (timesOf (modeAt t k) (partAt w k)) (timesOf (modeAt t l) (partAt w l)) (changeAt w k l)
 
 -- when a table is refused, in a buffer of the one length: the first refusal of its length and its rows; else that of its lowest mode that is refused
 pub data TableRefused (text : List ℕ) : Refusal → Type 0 where

@@ -46,7 +46,7 @@ use Rattle.planner.specs.Plans.{Reads, accepted, not-planned, Leaves, no-room, 
 use Rattle.planner.proofs.Leaving.{reads-one, leaves-stored, leaves-table, leaves-whole}
 use Rattle.planner.proofs.Answering.{plans-unique}
 use Rattle.machine.specs.Answers.{machine}
-use Rattle.marked.specs.Lines.{Claim, prints, refuses, starts, loads, answers, Line, textOf, WhenPlanned, WhenPrinted, WhenBegun, runningIn, Claimed, Holds}
+use Rattle.marked.specs.Lines.{Claim, prints, refuses, starts, loads, answers, Line, textOf, WhenPlanned, WhenPrinted, WhenBegun, timesAt, Claimed, Holds}
 use Rattle.marked.proofs.Reckoned.{answerOf, answersOf, wholeOf, whole-planned, first-refused}
 use Rattle.marked.proofs.Told.{Tells, begun-answers}
 
@@ -82,7 +82,7 @@ Right text (starts n ss) =
     × (startsIn (modeAt (tableIn text) (n - 1)) ≡ map tick ss ++ replicate (ACTORS - length ss) (tick 0))
 Right text (loads o n d k q over under) =
     Passes text
-    × Same (loadAt (runningIn (tableIn text) (wholeOf (tableIn text)) o) (runningIn (tableIn text) (wholeOf (tableIn text)) n) d k q)
+    × Same (loadAt (timesAt (tableIn text) (wholeOf (tableIn text)) o) (timesAt (tableIn text) (wholeOf (tableIn text)) n) d k q)
     (record { over = over; under = under })
 Right text (answers n qs) =
     Passes text
@@ -154,7 +154,7 @@ claimed text (starts n ss) (r, b, e, f) = λ u j s x.
     (reads-one (reads text r) s)
     (judged-starts (modeAt (tableIn text) (n - 1)) ss (ACTORS - length ss) (proper text r .mode (n - 1) (ltb→lt _ _ b)) e f) j x
 claimed text (loads o n d k q over under) (g, e) =
-    any-plan (reads text (g .0)) (planned text g) (λ t w. Same (loadAt (runningIn t w o) (runningIn t w n) d k q) (record { over = over; under = under })) e
+    any-plan (reads text (g .0)) (planned text g) (λ t w. Same (loadAt (timesAt t w o) (timesAt t w n) d k q) (record { over = over; under = under })) e
 claimed text (answers n qs) (g, h, e) =
     planning (reads text (g .0)) (planned text g) (λ words. WhenBegun words n qs) (λ words l. begun-answers l n qs h e)
 

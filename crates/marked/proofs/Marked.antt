@@ -9,7 +9,7 @@ use Rattle.numbers.specs.Sum.{sum}
 use Rattle.numbers.specs.Tab.{tab}
 use Rattle.numbers.specs.Lowest.{lowestOr}
 use Rattle.numbers.specs.Reckoned.{gcdFrom}
-use Rattle.csv.specs.Decimal.{writing, written as writtenOut, decimal}
+use Rattle.csv.specs.Decimal.{writing, decimal}
 use Rattle.csv.specs.Writing.{joined}
 use Rattle.reader.specs.Rows.{channels}
 use Rattle.reader.specs.Told.{tableOf}
@@ -35,7 +35,7 @@ _&_ : {A B : Type 0} → A → B → A × B
 a & b = (a, b)
 
 pub marked : Every Holds lines
-unfolding lines Tells bit sum sumOf tab lowestOr gcdFrom mostOf rowsIn readsb channels tableOf padded predsFrom roundFrom orderFrom chosen giversFrom entriesFrom stays fedOf countsFrom balancesb mostFrom commonFrom shareFrom timedOf balancedOf judgeOf startOf sizeOf depthFrom startsFrom scheduleOf answerOf partFor texts lineText joined decimal writtenOut writing refusal
+unfolding lines Tells bit sum sumOf tab lowestOr gcdFrom mostOf rowsIn readsb channels tableOf padded predsFrom roundFrom orderFrom chosen giversFrom entriesFrom stays fedOf countsFrom balancesb mostFrom commonFrom shareFrom timedOf balancedOf judgeOf startOf sizeOf depthFrom startsFrom scheduleOf answerOf partFor texts lineText joined decimal writing refusal
 marked =
     all-hold lines
     (((tt, refl), refl)

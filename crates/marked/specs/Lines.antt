@@ -16,10 +16,9 @@ use Rattle.graph.specs.declared.Verdict.the-variants.{Sound}
 use Rattle.graph.specs.declared.Judgement.{Judgement}
 use Rattle.graph.specs.Judged.{Judged}
 use Rattle.schedule.specs.Starts.{Starts}
-use Rattle.change.specs.declared.Running.{Running}
-use Rattle.change.specs.Change.{loadAt}
+use Rattle.change.specs.Change.{ModeTimes, loadAt}
 use Rattle.whole.specs.declared.Whole.{Whole}
-use Rattle.whole.specs.Whole.{partAt, runningOf, Planned}
+use Rattle.whole.specs.Whole.{partAt, timesOf, Planned}
 use Rattle.layout.specs.Words.{WORDS}
 use Rattle.printer.specs.Printed.{PRINTED, Shows}
 use Rattle.planner.specs.declared.Answer as Planner
@@ -92,8 +91,8 @@ abbrev pub WhenBegun : List ℕ → ℕ → List Asked → Type 0
 WhenBegun words mode asked = (b : Beginning) → Begins words mode b → (m : Machine) × (b ≡ Begun m) × WhenAsked words m asked
 
 -- mode n of a planned table as it runs
-abbrev pub runningIn : Table → Whole → ℕ → Running
-runningIn t w n = runningOf (modeAt t (n - 1)) (partAt w (n - 1))
+abbrev pub timesAt : Table → Whole → ℕ → ModeTimes
+timesAt t w n = timesOf (modeAt t (n - 1)) (partAt w (n - 1))
 
 -- the claim holds of the table of this text
 abbrev pub Claimed : List ℕ → Claim → Type 0
@@ -105,7 +104,7 @@ Claimed text (starts n ss) =
     → (j .verdict ≡ Sound) × Starts (modeAt t (n - 1)) (j .periods) (λ i. tick (getD ss i 0))
 Claimed text (loads o n d k p over under) =
     (t : Table) (w : Whole) → Reads text t → Planned t w
-    → Same (loadAt (runningIn t w o) (runningIn t w n) d k p) (record { over = over; under = under })
+    → Same (loadAt (timesAt t w o) (timesAt t w n) d k p) (record { over = over; under = under })
 Claimed text (answers n asked) = WhenPlanned text (λ a before after. (a ≡ Accepted) × WhenBegun after n asked)
 
 -- what a marked line says

@@ -22,9 +22,6 @@ AtMost a b = a .over * b .under ≤ b .over * a .under
 abbrev pub atMostb : Fraction → Fraction → Bool
 atMostb a b = leb (a .over * b .under) (b .over * a .under)
 
-pub at-most-decides : (a b : Fraction) → Decides (AtMost a b) (atMostb a b)
-at-most-decides a b = decides-leb (a .over * b .under) (b .over * a .under)
-
 -- a and b are the same part
 abbrev pub Same : Fraction → Fraction → Type 0
 Same a b = a .over * b .under ≡ b .over * a .under
@@ -40,6 +37,9 @@ plus a b = record { over = a .over * b .under + b .over * a .under; under = a .u
 unfoldable pub sumOf : (ℕ → Fraction) → ℕ → Fraction
 sumOf f zero = nothing
 sumOf f (suc n) = plus (sumOf f n) (f n)
+
+pub at-most-decides : (a b : Fraction) → Decides (AtMost a b) (atMostb a b)
+at-most-decides a b = decides-leb (a .over * b .under) (b .over * a .under)
 
 pub sum-proper : (f : ℕ → Fraction) (n : ℕ) → ((i : ℕ) → i < n → Proper (f i)) → Proper (sumOf f n)
 unfolding sumOf

@@ -13,6 +13,10 @@ use lib.Dec.{leb, eqb}
 abbrev pub RoundedUp : ℕ → ℕ → ℕ → Type 0
 RoundedUp a b = Least (λ n. a ≤ n * b)
 
+-- a / b rounded up: the quotient, and one more where something remains
+abbrev pub roundedOf : ℕ → ℕ → ℕ
+roundedOf a b = cond (eqb (a % b) 0) (a / b) (a / b + 1)
+
 -- the quotient, where b divides a
 pub rounded-exact : (a b : ℕ) → zero < b → a % b ≡ 0 → RoundedUp a b (a / b)
 rounded-exact a b pos e =
@@ -29,10 +33,7 @@ rounded-more a b pos f =
 pub rounded-fits : (a b : ℕ) → zero < b → (a % b ≡ 0 → ⊥) → a / b + 1 ≤ a
 rounded-fits a b pos f = omega (arith, f, le-mul-of-pos-right (a / b) pos, div-add-mod' a b)
 
--- a / b rounded up: the quotient, and one more where something remains
-abbrev pub roundedOf : ℕ → ℕ → ℕ
-roundedOf a b = cond (eqb (a % b) 0) (a / b) (a / b + 1)
-
+-- it is
 pub rounded-of : (a b : ℕ) → zero < b → RoundedUp a b (roundedOf a b)
 rounded-of a b pos = go (eqb (a % b) 0) refl
   where

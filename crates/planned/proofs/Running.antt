@@ -26,9 +26,10 @@ use Rattle.schedule.proofs.Sound.{at-actor}
 use Rattle.schedule.proofs.Modelled.{ready}
 use Rattle.schedule.proofs.Laws.{sink-active}
 use Rattle.change.specs.Work.{firingsAt, tickAt}
-use Rattle.change.specs.Change.{Ready}
+use Rattle.change.specs.Running.{Ready}
 use Rattle.whole.specs.declared.Part.{Part}
-use Rattle.whole.specs.Whole.{ModePlanned, runningOf}
+use Rattle.whole.specs.Steps.{runningOf}
+use Rattle.whole.specs.Whole.{ModePlanned}
 use Rattle.whole.proofs.Told.{judged-sound, scheduled-times}
 use Rattle.whole.proofs.Bounds.{mode-small}
 use Rattle.whole.proofs.Running.{mode-ready}

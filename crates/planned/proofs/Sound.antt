@@ -22,9 +22,11 @@ use Rattle.tables.specs.declared.Table.{Table}
 use Rattle.tables.specs.Shape.{modeAt, actorAt}
 use Rattle.tables.specs.Proper.{ProperTable}
 use Rattle.change.specs.declared.Running.{Running}
-use Rattle.change.specs.Change.{Changes, Ready, starts-after, actorIn, askedBy as asks, askedOf as asksOf}
+use Rattle.change.specs.Change.{starts-after}
+use Rattle.change.specs.Running.{Changes, Ready, timesIn, actorIn, askedBy as asks, askedOf as asksOf}
 use Rattle.whole.specs.declared.Whole.{Whole}
-use Rattle.whole.specs.Whole.{Listed, changeAt, runningOf, Planned}
+use Rattle.whole.specs.Steps.{runningOf}
+use Rattle.whole.specs.Whole.{Listed, changeAt, Planned}
 use Rattle.whole.proofs.Running.{listed-some, listed-none}
 use Rattle.run.specs.Plan.{Acts, startup}
 use Rattle.run.specs.Machine.{worst}
@@ -160,7 +162,7 @@ module _ (t : Table) (w : Whole) (proper : ProperTable t) (planned : Planned t w
         change = λ o l q k ho hl other d s.
             subst₂ (λ (f g : Fraction). AtMost (plus f g) LOAD-LIMIT) (sym (asked o q ho _)) (sym (asked l q hl _))
             (together o l q k ho hl other d s (processor-or-not q));
-        waits = λ o l i ho hl other a b. starts-after (running o) (running l) (changes o l ho hl other) i (acts o i a) (acts l i b);
+        waits = λ o l i ho hl other a b. starts-after (timesIn (running o)) (timesIn (running l)) (changes o l ho hl other) i (acts o i a) (acts l i b);
       }
     where
       alone : (m q : ℕ) → T (isListed t m) → Dec (Processor q) → AtMost (asksOf (running m) q (λ i. true)) LOAD-LIMIT

@@ -10,7 +10,7 @@ use lib.Dec.{T, ltb, leb, lit<, lit≤, leb→le, ltb→lt}
 use lib.ListN.{length, length-append}
 use Rattle.numbers.specs.Every.{Every}
 use Rattle.csv.specs.Bytes.{classOf}
-use Rattle.csv.specs.Decimal.{decimal, written, writing, spaced}
+use Rattle.csv.specs.Decimal.{decimal, writing, spaced}
 use Rattle.csv.specs.Grammar.{Cell, plain, quoted, cellText, Inner, Inside, nothing, byte, Means, as-is, between, RecordEnd, crlf, over, FirstRecord, last, more}
 use Rattle.csv.specs.Writing.{joined}
 use Rattle.units.specs.Limits.{MOST-BYTES, FIELDS}
@@ -142,7 +142,7 @@ not-seven (actor r) e = zero-alone (decimal-writes (r .is .wcet .0)) 55 [] (cc)
 not-seven (channel r) e = let z : _≡_ {A = ℕ} 97 99 = cc in omega arith
 
 told-so : Every (λ e. Of (bytes (e .text)) (e .told)) examples
-unfolding rowsIn readsb joined textOf spaced decimal written writing classOf channels
+unfolding rowsIn readsb joined textOf spaced decimal writing classOf channels
 told-so =
     let a = anActor 1 1 1 7 1 in
     let b = anActor 1 1 2 1 1 in

@@ -27,7 +27,7 @@ use Rattle.schedule.specs.Model.{scheduleOf}
 use Rattle.schedule.proofs.Modelled.{schedule-scheduled}
 use Rattle.change.specs.declared.Running.{Running}
 use Rattle.change.specs.declared.Timing.{Timing}
-use Rattle.change.specs.Change.{worstOf, Ready}
+use Rattle.change.specs.Running.{worstOf, Ready}
 use Rattle.change.specs.Waits.{overlapOf, offsetFrom}
 use Rattle.change.proofs.Offsets.{found}
 use Rattle.whole.specs.declared.Part.{Part}

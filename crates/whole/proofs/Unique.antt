@@ -33,7 +33,7 @@ use Rattle.whole.specs.declared.Part.{Part}
 use Rattle.whole.specs.declared.Whole.{Whole}
 use Rattle.whole.specs.declared.Answer.the-variants.{Refused as IsRefused, Planned as IsPlanned}
 use Rattle.whole.specs.declared.Outcome.{Outcome}
-use Rattle.whole.specs.Whole.{noPart, noTiming, emptyWhole, changeAt, Listed, refusal, ModeRefused, by-6, by-7, by-8, by-9, by-10, partOf, ModePlanned, IsPart, runningOf, Leads, IsChange, Planned, Planning, refused, planned}
+use Rattle.whole.specs.Whole.{timesOf, noPart, noTiming, emptyWhole, changeAt, Listed, refusal, ModeRefused, by-6, by-7, by-8, by-9, by-10, partOf, ModePlanned, IsPart, Leads, IsChange, Planned, Planning, refused, planned}
 
 -- the refusal of a mode with number n by its verdict and its timing
 abbrev refusalOf : ℕ → Verdict → Timing → Refusal
@@ -159,7 +159,7 @@ module _ (t : Table) where
         go p q (no n) = p .leads-not n ∙ sym (q .leads-not n)
         go p q (yes h) =
             changes-unique _ _ (p .leads h)
-            (subst (λ (ps : List Part). Changes (runningOf (modeAt t k) (getD ps k noPart)) (runningOf (modeAt t l) (getD ps l noPart)) (changeAt v k l)) (sym parts-same) (q .leads h))
+            (subst (λ (ps : List Part). Changes (timesOf (modeAt t k) (getD ps k noPart)) (timesOf (modeAt t l) (getD ps l noPart)) (changeAt v k l)) (sym parts-same) (q .leads h))
 
     changes-same : w .changes ≡ v .changes
     changes-same =

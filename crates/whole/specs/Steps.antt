@@ -13,11 +13,12 @@ use Rattle.tables.specs.declared.Table.{Table}
 use Rattle.tables.specs.Shape.{modeAt, emptyMode}
 use Rattle.change.specs.declared.Running.{Running}
 use Rattle.change.specs.declared.Timing.{Timing}
-use Rattle.change.specs.Change.{Ready, Changes}
+use Rattle.change.specs.Work.{preparedOf}
+use Rattle.change.specs.Running.{Ready, Changes}
 use Rattle.whole.specs.declared.Part.{Part}
 use Rattle.whole.specs.declared.Answer.{Answer}
 use Rattle.whole.specs.declared.Answer.the-variants.{Planned as IsPlanned, Refused as IsRefused}
-use Rattle.whole.specs.Whole.{noPart, noTiming, emptyPart, Listed, ModeRefused, ModePlanned, IsPart, runningOf}
+use Rattle.whole.specs.Whole.{noPart, noTiming, emptyPart, Listed, ModeRefused, ModePlanned, IsPart}
 
 -- the parts of the modes below k are found
 abbrev pub FoundParts : Table → List Part → ℕ → Type 0
@@ -39,7 +40,10 @@ AllCome t IsPlanned ps = FoundParts t ps MODES
 AllCome t (IsRefused r) ps =
     (k : ℕ) × Listed t k × ((l : ℕ) → l < k → Listed t l → (p : Part) × ModePlanned (modeAt t l) p) × ModeRefused (modeAt t k) (numberOf k) r
 
--- the modes as they run
+-- a planned mode as it is kept to run
+abbrev pub runningOf : Mode → Part → Running
+runningOf m p = preparedOf (m .active) (m .actors) (p .iteration) (p .firings) (p .periods) (p .starts) (p .startup)
+
 abbrev pub noRunning : Running
 noRunning =
     record {

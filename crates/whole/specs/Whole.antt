@@ -21,10 +21,8 @@ use Rattle.graph.specs.Judged.{Judged, refusedBy}
 use Rattle.schedule.specs.declared.Timing.the-variants.{OnTime}
 use Rattle.schedule.specs.declared.Timetable.{Timetable}
 use Rattle.schedule.specs.Scheduled.{Scheduled, lateBy}
-use Rattle.change.specs.declared.Running.{Running}
 use Rattle.change.specs.declared.Timing.{Timing}
-use Rattle.change.specs.Work.{preparedOf}
-use Rattle.change.specs.Change.{Changes}
+use Rattle.change.specs.Change.{ModeTimes, Changes}
 use Rattle.whole.specs.declared.Part.{Part}
 use Rattle.whole.specs.declared.Whole.{Whole}
 use Rattle.whole.specs.declared.Answer.the-variants.{Planned as IsPlanned, Refused as IsRefused}
@@ -119,9 +117,9 @@ pub record IsPart (t : Table) (k : ℕ) (p : Part) : Type 0 where
   pub listed : Listed t k → ModePlanned (modeAt t k) p
   pub unlisted : (Listed t k → ⊥) → p ≡ emptyPart
 
--- a planned mode as it runs
-abbrev pub runningOf : Mode → Part → Running
-runningOf m p = preparedOf (m .active) (m .actors) (p .iteration) (p .firings) (p .periods) (p .starts) (p .startup)
+-- a mode and what is planned of it, as a change sees them
+abbrev pub timesOf : Mode → Part → ModeTimes
+timesOf m p = record { active = m .active; actors = m .actors; iteration = p .iteration; periods = p .periods; starts = p .starts; startup = p .startup }
 
 -- a change leads from a listed mode to another
 abbrev pub Leads : Table → ℕ → ℕ → Type 0
@@ -129,7 +127,7 @@ Leads t k l = Listed t k × Listed t l × (k ≡ l → ⊥)
 
 -- c is the change from mode k to mode l: all 0 where there is none
 pub record IsChange (t : Table) (w : Whole) (k l : ℕ) (c : Timing) : Type 0 where
-  pub leads : Leads t k l → Changes (runningOf (modeAt t k) (partAt w k)) (runningOf (modeAt t l) (partAt w l)) c
+  pub leads : Leads t k l → Changes (timesOf (modeAt t k) (partAt w k)) (timesOf (modeAt t l) (partAt w l)) c
   pub leads-not : (Leads t k l → ⊥) → c ≡ noTiming
 
 -- w is the plan of a table of which no mode is refused

@@ -4,7 +4,7 @@ use mathlib.Core.Path.{ap, _∙_}
 use native.Mathlib.Omega.{arith}
 use Rattle.units.specs.Limits.{LOAD-LIMIT}
 use Rattle.units.specs.declared.Tick.{Tick}
-use Rattle.change.specs.Change.{Overlap, Offset}
+use Rattle.change.specs.Running.{Overlap, Offset}
 use Rattle.change.proofs.Offsets.{found}
 use Rattle.change.proofs.change.Statement.{statement}
 use Rattle.change.proofs.change.Tie as tie
