@@ -15,7 +15,7 @@ use Rattle.numbers.specs.Extreme.{mostOf, most-next, most-above, most-within, m
 use Rattle.numbers.specs.Fraction.{AtMost, plus, same-plus, same-at-most, atMostb}
 use Rattle.numbers.specs.Tab.{getD-tab}
 use Rattle.numbers.specs.declared.fraction.Fraction.{Fraction}
-use Rattle.units.specs.Limits.{ACTORS, PROCESSORS, LOAD-LIMIT}
+use Rattle.units.specs.Limits.{ACTORS, PROCESSORS, limitOf}
 use Rattle.units.specs.Ticks.{tick, minusTicks, greaterTick}
 use Rattle.units.specs.declared.Tick.{Tick}
 use Rattle.period.specs.Period.{partOf}
@@ -34,9 +34,9 @@ abbrev pub together : Running → Running → ℕ → ℕ → Fraction
 together old new i j = asked old new (workIn old (actorIn old i .processor) (startOf old i) (old .startup .0)) (workIn new (actorIn new j .processor) 0 (startOf new j))
 
 -- the new actor waits for the old one, where they are on one processor and that is above the limit
-abbrev pub Waits : Fraction → Running → Running → ℕ → ℕ → ℕ → Type 0
+abbrev pub Waits : (ℕ → Fraction) → Running → Running → ℕ → ℕ → ℕ → Type 0
 Waits limit old new d i j =
-    actorIn old i .processor ≡ actorIn new j .processor → (AtMost (together old new i j) limit → ⊥) → startOf old i ≤ d + startOf new j
+    actorIn old i .processor ≡ actorIn new j .processor → (AtMost (together old new i j) (limit (actorIn old i .processor)) → ⊥) → startOf old i ≤ d + startOf new j
 
 -- one actor more: in both modes, or not
 module _ (old new : Running) (i : ℕ) where
@@ -82,23 +82,23 @@ module _ (r : Running) (ready : Ready r) (i : ℕ) (l : i < ACTORS) where
   until-is : tickAt (r .until) i ≡ tick (workIn r (actorIn r i .processor) 0 (startOf r i))
   until-is = rw (ready .until) (getD-tab ACTORS _ i (tick 0) l)
 
-module _ (limit : Fraction) where
+module _ (limit : ℕ → Fraction) where
   -- a mode's work on a processor is within the limit
-  pub own-work : (r : Running) → Ready r → Bearable limit r → (p : ℕ) → 1 ≤ p → p ≤ PROCESSORS → (a b : ℕ) → AtMost (partOf (tick (workIn r p a b)) (r .iteration)) limit
+  pub own-work : (r : Running) → Ready r → Bearable limit r → (p : ℕ) → 1 ≤ p → p ≤ PROCESSORS → (a b : ℕ) → AtMost (partOf (tick (workIn r p a b)) (r .iteration)) (limit p)
   own-work r ready own p l m a b =
       omega (
         arith,
-        mul-le-mul-right (limit .under) (work-within r p a b 0 (r .startup .0) (λ i l w. (w .0, (zero-le, ready .start i l)))),
-        same-at-most (askedOf r p (λ i. true)) (partOf (tick (workIn r p 0 (r .startup .0))) (r .iteration)) limit (asked-proper r ready p (λ i. true)) (ready .some-tick)
+        mul-le-mul-right (limit p .under) (work-within r p a b 0 (r .startup .0) (λ i l w. (w .0, (zero-le, ready .start i l)))),
+        same-at-most (askedOf r p (λ i. true)) (partOf (tick (workIn r p 0 (r .startup .0))) (r .iteration)) (limit p) (asked-proper r ready p (λ i. true)) (ready .some-tick)
             (asked-work r ready p (λ i. true) 0 (r .startup .0) (λ i l. ((λ t. (zero-le, ready .start i l)), (λ w. tt)))) .0 (own p l m),
       )
 
   module _ (old new : Running) (ready-old : Ready old) (ready-new : Ready new) where
     -- the load at tick k by works
     load-work : (d k p : ℕ) → d ≤ k
-        → AtMost (loadAt old new d k p) limit ↔ AtMost (asked old new (workIn old p (suc k) (old .startup .0)) (workIn new p 0 (k - d))) limit
+        → AtMost (loadAt old new d k p) (limit p) ↔ AtMost (asked old new (workIn old p (suc k) (old .startup .0)) (workIn new p 0 (k - d))) (limit p)
     load-work d k p h =
-        same-at-most (loadAt old new d k p) (asked old new (workIn old p (suc k) (old .startup .0)) (workIn new p 0 (k - d))) limit
+        same-at-most (loadAt old new d k p) (asked old new (workIn old p (suc k) (old .startup .0)) (workIn new p 0 (k - d))) (limit p)
         (mul-pos (asked-proper old ready-old p counts-old) (asked-proper new ready-new p counts-new))
         (mul-pos (ready-old .some-tick) (ready-new .some-tick))
         (same-plus (askedOf old p counts-old) (askedOf new p counts-new) (partOf (tick (workIn old p (suc k) (old .startup .0))) (old .iteration)) (partOf (tick (workIn new p 0 (k - d))) (new .iteration))
@@ -118,38 +118,38 @@ module _ (limit : Fraction) where
         more s g = omega arith
 
     -- less work is within the limit too, and so is that of one mode
-    less-asked : (v w x y : ℕ) → v ≤ x → w ≤ y → AtMost (asked old new x y) limit → AtMost (asked old new v w) limit
-    less-asked v w x y g h m =
+    less-asked : (f : Fraction) (v w x y : ℕ) → v ≤ x → w ≤ y → AtMost (asked old new x y) f → AtMost (asked old new v w) f
+    less-asked f v w x y g h m =
         omega (
           arith,
           m,
-          mul-le-mul-right (new .iteration .0 * limit .under) g,
-          mul-le-mul-right (old .iteration .0 * limit .under) h,
+          mul-le-mul-right (new .iteration .0 * f .under) g,
+          mul-le-mul-right (old .iteration .0 * f .under) h,
         )
 
-    one-asked : (w : ℕ) → AtMost (partOf (tick w) (new .iteration)) limit → AtMost (asked old new 0 w) limit
-    one-asked w m = omega (arith, mul-le-mul-left (old .iteration .0) m)
+    one-asked : (f : Fraction) (w : ℕ) → AtMost (partOf (tick w) (new .iteration)) f → AtMost (asked old new 0 w) f
+    one-asked f w m = omega (arith, mul-le-mul-left (old .iteration .0) m)
 
-    other-asked : (v : ℕ) → AtMost (partOf (tick v) (old .iteration)) limit → AtMost (asked old new v 0) limit
-    other-asked v m = omega (arith, mul-le-mul-left (new .iteration .0) m)
+    other-asked : (f : Fraction) (v : ℕ) → AtMost (partOf (tick v) (old .iteration)) f → AtMost (asked old new v 0) f
+    other-asked f v m = omega (arith, mul-le-mul-left (new .iteration .0) m)
 
     -- an offset from which the load is borne: each new actor waits
     bears-waits : (d : ℕ) → Bears limit old new d → (i j : ℕ) → i < ACTORS → j < ACTORS → Waits limit old new d i j
     bears-waits d bears i j li lj e above = go (decLe (startOf old i) (d + startOf new j)) (has-or-not (old .active) i)
       where
         -- the load at the new actor's start
-        borne : d + startOf new j < startOf old i → Has (old .active) i → AtMost (together old new i j) limit
+        borne : d + startOf new j < startOf old i → Has (old .active) i → AtMost (together old new i j) (limit (actorIn old i .processor))
         borne h y =
             let a = ready-old .actor i (li, y) in
             let p = actorIn old i .processor in
             let k = d + startOf new j in
-            less-asked _ _ (workIn old p (suc k) (old .startup .0)) (workIn new p 0 (k - d))
+            less-asked (limit p) _ _ (workIn old p (suc k) (old .startup .0)) (workIn new p 0 (k - d))
             (work-within old p (startOf old i) (old .startup .0) (suc k) (old .startup .0) (λ n l w. (w .0, (omega (arith, w .1 .0), w .1 .1))))
             (rw (← e) (work-within new p 0 (startOf new j) 0 (k - d) (λ n l w. (w .0, (zero-le, omega (arith, w .1 .1))))))
             (load-work d k p (omega arith) .0 (bears k p (omega arith) (omega (arith, ready-old .start i li)) (a .some-processor) (a .processor)))
 
         -- an actor that does not run asks for nothing, nor does any other with it
-        nowhere : bit (old .active) i ≡ 0 → AtMost (together old new i j) limit
+        nowhere : bit (old .active) i ≡ 0 → AtMost (together old new i j) (limit (actorIn old i .processor))
         nowhere z =
             let q : actorIn old i .processor ≡ 0 = rw (ready-old .no-actor i li (λ h. omega arith)) in
             let v : workIn old (actorIn old i .processor) (startOf old i) (old .startup .0) ≡ 0 = rw q (work-nowhere old ready-old _ _) in
@@ -166,24 +166,24 @@ module _ (limit : Fraction) where
     waits-bears d waits own-old own-new k p dk ks l m =
         load-work d k p dk .1 (go (work-first old p (suc (old .startup .0)) (suc k) (old .startup .0) (omega arith)) (work-last new p (k - d)))
       where
-        go : FromFirst old p (suc k) (old .startup .0) → ToLast new p (k - d) → AtMost (asked old new (workIn old p (suc k) (old .startup .0)) (workIn new p 0 (k - d))) limit
-        go (inl z) t = rw z (one-asked (workIn new p 0 (k - d)) (own-work new ready-new own-new p l m 0 (k - d)))
+        go : FromFirst old p (suc k) (old .startup .0) → ToLast new p (k - d) → AtMost (asked old new (workIn old p (suc k) (old .startup .0)) (workIn new p 0 (k - d))) (limit p)
+        go (inl z) t = rw z (one-asked (limit p) (workIn new p 0 (k - d)) (own-work new ready-new own-new p l m 0 (k - d)))
         go (inr (i, li, wi, vi)) (inl z) =
-            rw z (other-asked (workIn old p (suc k) (old .startup .0)) (own-work old ready-old own-old p l m (suc k) (old .startup .0)))
+            rw z (other-asked (limit p) (workIn old p (suc k) (old .startup .0)) (own-work old ready-old own-old p l m (suc k) (old .startup .0)))
         go (inr (i, li, (ei, wi), vi)) (inr (j, lj, (ej, wj), vj)) =
             rw (vi, vj) (pair (decLe _ _))
           where
-            pair : Dec (AtMost (asked old new (workIn old p (startOf old i) (old .startup .0)) (workIn new p 0 (startOf new j))) limit)
-                → AtMost (asked old new (workIn old p (startOf old i) (old .startup .0)) (workIn new p 0 (startOf new j))) limit
+            pair : Dec (AtMost (asked old new (workIn old p (startOf old i) (old .startup .0)) (workIn new p 0 (startOf new j))) (limit p))
+                → AtMost (asked old new (workIn old p (startOf old i) (old .startup .0)) (workIn new p 0 (startOf new j))) (limit p)
             pair (yes h) = h
             pair (no n) = let late : startOf old i ≤ d + startOf new j = waits i j li lj (ei ∙ sym ej) (rw (ei, ej) n) in absurd (omega arith)
 
     -- how long a new actor waits for an old one
     wait-is : (d i j : ℕ) → i < ACTORS → j < ACTORS → (waitOf limit (oldSide old i) (newSide new j) .0 ≤ d) ↔ Waits limit old new d i j
     wait-is d i j li lj =
-        rw (since-is old ready-old i li, until-is new ready-new j lj) (go (eqb (actorIn old i .processor) (actorIn new j .processor)) refl (atMostb (together old new i j) limit) refl)
+        rw (since-is old ready-old i li, until-is new ready-new j lj) (go (eqb (actorIn old i .processor) (actorIn new j .processor)) refl (atMostb (together old new i j) (limit (actorIn old i .processor))) refl)
       where
-        go : (x : Bool) → eqb (actorIn old i .processor) (actorIn new j .processor) ≡ x → (y : Bool) → atMostb (together old new i j) limit ≡ y
+        go : (x : Bool) → eqb (actorIn old i .processor) (actorIn new j .processor) ≡ x → (y : Bool) → atMostb (together old new i j) (limit (actorIn old i .processor)) ≡ y
             → (cond x (cond y (tick 0) (minusTicks (tickAt (old .starts) i) (tickAt (new .starts) j))) (tick 0) .0 ≤ d) ↔ Waits limit old new d i j
         go false e y f = ((λ h same n. absurd (eqb-false _ _ e same)), (λ w. zero-le))
         go true e true f = ((λ h same n. absurd (n (leb-true _ _ f))), (λ w. zero-le))
@@ -239,7 +239,7 @@ module _ (r : Running) (ready : Ready r) (i : ℕ) (l : i < ACTORS) where
   work-part a b = record { some = ready .some-tick; part = ⊎-elim on nowhere (has-or-not (r .active) i); whole = ready .iteration }
     where
       on : Has (r .active) i → workIn r (actorIn r i .processor) a b ≤ r .iteration .0
-      on y = let p = ready .actor i (l, y) in omega (arith, own-work LOAD-LIMIT r ready (ready .load) (actorIn r i .processor) (p .some-processor) (p .processor) a b)
+      on y = let p = ready .actor i (l, y) in omega (arith, own-work limitOf r ready (ready .load) (actorIn r i .processor) (p .some-processor) (p .processor) a b)
 
       nowhere : bit (r .active) i ≡ 0 → workIn r (actorIn r i .processor) a b ≤ r .iteration .0
       nowhere z =
@@ -254,7 +254,7 @@ module _ (r : Running) (ready : Ready r) (i : ℕ) (l : i < ACTORS) where
   until-part = rw (until-is r ready i l) (work-part _ _)
 
 -- what is found, under the limit in force
-pub found : (old new : Running) → Ready old → Ready new → {x o d : Tick} → x ≡ overlapOf old new → o ≡ offsetFrom LOAD-LIMIT old new → d ≡ greaterTick x o
-    → Overlap old new x × Offset LOAD-LIMIT old new x d
+pub found : (old new : Running) → Ready old → Ready new → {x o d : Tick} → x ≡ overlapOf old new → o ≡ offsetFrom limitOf old new → d ≡ greaterTick x o
+    → Overlap old new x × Offset limitOf old new x d
 found old new ready-old ready-new e f g =
-    rw (g, e, f) (overlap-is old new, offset-is LOAD-LIMIT old new ready-old ready-new (ready-old .load) (ready-new .load))
+    rw (g, e, f) (overlap-is old new, offset-is limitOf old new ready-old ready-new (ready-old .load) (ready-new .load))

@@ -11,7 +11,7 @@ use Rattle.numbers.specs.Bits.{Has, hasb}
 use Rattle.numbers.specs.Extreme.{Least, Greatest, least-unique, greatest-unique}
 use Rattle.numbers.specs.Fraction.{AtMost, plus, sumOf, nothing}
 use Rattle.numbers.specs.declared.fraction.Fraction.{Fraction}
-use Rattle.units.specs.Limits.{ACTORS, PROCESSORS, LOAD-LIMIT}
+use Rattle.units.specs.Limits.{ACTORS, PROCESSORS, limitOf}
 use Rattle.units.specs.Ticks.{tick}
 use Rattle.units.specs.declared.Tick.{Tick}
 use Rattle.period.specs.Period.{partOf}
@@ -55,20 +55,20 @@ isOn r p i = hasb (r .active) i && eqb (actorIn r i .processor) p
 abbrev pub askedOf : ModeTimes → ℕ → (ℕ → Bool) → Fraction
 askedOf r p counts = sumOf (λ i. cond (isOn r p i && counts i) (askedBy r i) nothing) ACTORS
 
--- a mode by itself asks of no processor more than the limit
-abbrev pub Bearable : Fraction → ModeTimes → Type 0
-Bearable limit r = (p : ℕ) → 1 ≤ p → p ≤ PROCESSORS → AtMost (askedOf r p (λ i. true)) limit
+-- a mode by itself asks of no processor more than its limit
+abbrev pub Bearable : (ℕ → Fraction) → ModeTimes → Type 0
+Bearable limit r = (p : ℕ) → 1 ≤ p → p ≤ PROCESSORS → AtMost (askedOf r p (λ i. true)) (limit p)
 
 -- the load of processor p at tick k of the change, with offset d: an old actor counts while k is below its start, a new one once k is at least d + its start
 abbrev pub loadAt : ModeTimes → ModeTimes → ℕ → ℕ → ℕ → Fraction
 loadAt old new d k p = plus (askedOf old p (λ i. ltb k (startOf old i))) (askedOf new p (λ i. leb (d + startOf new i) k))
 
--- with offset d each processor's load is at most the limit, at every tick from d to the end of the old mode's start-up
-abbrev pub Bears : Fraction → ModeTimes → ModeTimes → ℕ → Type 0
-Bears limit old new d = (k p : ℕ) → d ≤ k → k ≤ old .startup .0 → 1 ≤ p → p ≤ PROCESSORS → AtMost (loadAt old new d k p) limit
+-- with offset d each processor's load is at most its limit, at every tick from d to the end of the old mode's start-up
+abbrev pub Bears : (ℕ → Fraction) → ModeTimes → ModeTimes → ℕ → Type 0
+Bears limit old new d = (k p : ℕ) → d ≤ k → k ≤ old .startup .0 → 1 ≤ p → p ≤ PROCESSORS → AtMost (loadAt old new d k p) (limit p)
 
 -- Offset: the least tick count from the overlap to the end of the old mode's start-up that has this.
-abbrev pub Offset : Fraction → ModeTimes → ModeTimes → Tick → Tick → Type 0
+abbrev pub Offset : (ℕ → Fraction) → ModeTimes → ModeTimes → Tick → Tick → Type 0
 Offset limit old new x d = Least (λ n. (x .0 ≤ n) × (n ≤ old .startup .0) × Bears limit old new n) (d .0)
 
 -- Worst delay: the offset, the start-up of the new mode, and an iteration of the old one less a tick.
@@ -77,7 +77,7 @@ worstOf old new d = tick (d .0 + new .startup .0 + old .iteration .0 - 1)
 
 pub record Changes (old new : ModeTimes) (r : Timing) : Type 0 where
   pub overlap : Overlap old new (r .overlap)
-  pub offset : Offset LOAD-LIMIT old new (r .overlap) (r .offset)
+  pub offset : Offset limitOf old new (r .overlap) (r .offset)
   pub worst : r .worst ≡ worstOf old new (r .offset)
 
 -- an actor in both modes starts anew only once it has ended
@@ -86,13 +86,13 @@ starts-after old new {r} p i a b =
     omega (arith, p .overlap .greatest (startOf old i - startOf new i) (inr (i, a, b, refl)), p .offset .holds .0)
 
 -- one offset, and one change
-pub offset-unique : (limit : Fraction) (old new : ModeTimes) (x : Tick) {d e : Tick} → Offset limit old new x d → Offset limit old new x e → d ≡ e
+pub offset-unique : (limit : ℕ → Fraction) (old new : ModeTimes) (x : Tick) {d e : Tick} → Offset limit old new x d → Offset limit old new x e → d ≡ e
 offset-unique limit old new x p q = λ i. tick (least-unique _ p q i)
 
 pub changes-unique : (old new : ModeTimes) {r s : Timing} → Changes old new r → Changes old new s → r ≡ s
 changes-unique old new {r} {s} p q =
     let x : r .overlap ≡ s .overlap = λ i. tick (greatest-unique _ (p .overlap) (q .overlap) i) in
     let d : r .offset ≡ s .offset =
-    offset-unique LOAD-LIMIT old new (r .overlap) (p .offset) (subst (λ (x : Tick). Offset LOAD-LIMIT old new x (s .offset)) (sym x) (q .offset)) in
+    offset-unique limitOf old new (r .overlap) (p .offset) (subst (λ (x : Tick). Offset limitOf old new x (s .offset)) (sym x) (q .offset)) in
     let w : r .worst ≡ s .worst = p .worst ∙ ap (worstOf old new) d ∙ sym (q .worst) in
     λ i. record { overlap = x i; offset = d i; worst = w i }

@@ -5,7 +5,7 @@ use Prim.Native.Nat.{ℕ, _*_, _≤_, _<_}
 use Rattle.numbers.specs.Bits.{Has}
 use Rattle.numbers.specs.declared.fraction.Fraction.{Fraction}
 use Rattle.units.specs.Bounds.{MOST-START}
-use Rattle.units.specs.Limits.{ACTORS, ITERATION-LIMIT, LOAD-LIMIT}
+use Rattle.units.specs.Limits.{ACTORS, ITERATION-LIMIT, limitOf}
 use Rattle.units.specs.declared.Tick.{Tick}
 use Rattle.tables.specs.declared.Actor.{Actor}
 use Rattle.tables.specs.Shape.{noActor}
@@ -41,16 +41,16 @@ isOn r p i = Rule.isOn (timesIn r) p i
 abbrev pub askedOf : Running → ℕ → (ℕ → Bool) → Fraction
 askedOf r p counts = Rule.askedOf (timesIn r) p counts
 
-abbrev pub Bearable : Fraction → Running → Type 0
+abbrev pub Bearable : (ℕ → Fraction) → Running → Type 0
 Bearable limit r = Rule.Bearable limit (timesIn r)
 
 abbrev pub loadAt : Running → Running → ℕ → ℕ → ℕ → Fraction
 loadAt old new d k p = Rule.loadAt (timesIn old) (timesIn new) d k p
 
-abbrev pub Bears : Fraction → Running → Running → ℕ → Type 0
+abbrev pub Bears : (ℕ → Fraction) → Running → Running → ℕ → Type 0
 Bears limit old new d = Rule.Bears limit (timesIn old) (timesIn new) d
 
-abbrev pub Offset : Fraction → Running → Running → Tick → Tick → Type 0
+abbrev pub Offset : (ℕ → Fraction) → Running → Running → Tick → Tick → Type 0
 Offset limit old new x d = Rule.Offset limit (timesIn old) (timesIn new) x d
 
 abbrev pub worstOf : Running → Running → Tick → Tick
@@ -70,6 +70,6 @@ pub record Ready (r : Running) : Type 0 where
   pub startup : r .startup .0 ≤ MOST-START .0
   pub some-tick : 0 < r .iteration .0
   pub iteration : r .iteration .0 ≤ ITERATION-LIMIT .0
-  pub load : Bearable LOAD-LIMIT r
+  pub load : Bearable limitOf r
   pub since : r .since ≡ sincesOf (r .actors) (r .firings) (r .starts) (r .startup)
   pub until : r .until ≡ untilsOf (r .actors) (r .firings) (r .starts)

@@ -35,12 +35,12 @@ oldSide r i = record { processor = actorIn r i .processor; start = tickAt (r .st
 abbrev pub newSide : Running → ℕ → Side
 newSide r j = record { processor = actorIn r j .processor; start = tickAt (r .starts) j; asked = partOf (tickAt (r .until) j) (r .iteration) }
 
-abbrev pub waitOf : Fraction → Side → Side → Tick
-waitOf limit a b = cond (eqb (a .processor) (b .processor)) (cond (atMostb (plus (a .asked) (b .asked)) limit) (tick 0) (minusTicks (a .start) (b .start))) (tick 0)
+abbrev pub waitOf : (ℕ → Fraction) → Side → Side → Tick
+waitOf limit a b = cond (eqb (a .processor) (b .processor)) (cond (atMostb (plus (a .asked) (b .asked)) (limit (a .processor))) (tick 0) (minusTicks (a .start) (b .start))) (tick 0)
 
 -- how long the new mode waits: the greatest over the pairs of an old actor and a new one, the pair of i and j at ACTORS * i + j
-abbrev pub pairWait : Fraction → Running → Running → ℕ → ℕ
+abbrev pub pairWait : (ℕ → Fraction) → Running → Running → ℕ → ℕ
 pairWait limit old new n = waitOf limit (oldSide old (n / ACTORS)) (newSide new (n % ACTORS)) .0
 
-abbrev pub offsetFrom : Fraction → Running → Running → Tick
+abbrev pub offsetFrom : (ℕ → Fraction) → Running → Running → Tick
 offsetFrom limit old new = tick (mostOf (pairWait limit old new) (ACTORS * ACTORS))

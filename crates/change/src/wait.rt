@@ -8,7 +8,7 @@ use units::Tick;
 use units::limits::ACTORS;
 use units::limits::LOAD_LIMIT;
 ghost use mathlib.Core.Path.{_≡_};
-ghost use Rattle.units.specs.Limits.{LOAD-LIMIT};
+ghost use Rattle.units.specs.Limits.{limitOf};
 ghost use Rattle.change.specs.Running.{Ready};
 ghost use Rattle.change.specs.Waits.{Part, overlapOf, waitOf, offsetFrom};
 
@@ -38,7 +38,7 @@ pub(crate) struct Side {
 // How long a new actor waits for an old one.
 fn wait(old: Side, new: Side) -> Tick
     requires { ⌜ Part (old .asked) × Part (new .asked) ⌝ }
-    ensures { λ r. ⌜ r ≡ waitOf LOAD-LIMIT old new ⌝ }
+    ensures { λ r. ⌜ r ≡ waitOf limitOf old new ⌝ }
 {
     if old.processor != new.processor {
         return Tick::NONE;
@@ -55,7 +55,7 @@ fn wait(old: Side, new: Side) -> Tick
 // How long the new mode waits for the old one: the longest that one of its actors waits for one of the old.
 pub(crate) fn offset_of(old: Running, new: Running) -> Tick
     requires { ⌜ Ready old × Ready new ⌝ }
-    ensures { λ r. ⌜ r ≡ offsetFrom LOAD-LIMIT old new ⌝ }
+    ensures { λ r. ⌜ r ≡ offsetFrom limitOf old new ⌝ }
 {
     let mut most = Tick::NONE;
     for n in 0..ACTORS * ACTORS {

@@ -8,7 +8,7 @@ use Rattle.numbers.specs.Fraction.{sumOf, AtMost, nothing}
 use Rattle.numbers.specs.declared.fraction.Fraction.{Fraction}
 use Rattle.units.specs.declared.Tick.{Tick}
 use Rattle.units.specs.Ticks.{tick}
-use Rattle.units.specs.Limits.{ACTORS, PROCESSORS, LOAD-LIMIT}
+use Rattle.units.specs.Limits.{ACTORS, PROCESSORS, limitOf}
 use Rattle.period.specs.Period.{periodOf, partOf}
 use Rattle.terms.specs.Place.{numberOf}
 use Rattle.tables.specs.declared.Mode.{Mode}
@@ -27,10 +27,10 @@ askedBy m x h i = partOf (actorAt m i .wcet) (periodOf h (firingsOf m x i))
 abbrev pub loadOf : Mode → (ℕ → ℕ) → Tick → ℕ → Fraction
 loadOf m x h p = sumOf (λ i. cond (isOn m p i) (askedBy m x h i) nothing) ACTORS
 
--- Refusal 9: the load of the processor at place p is above the limit.
+-- Refusal 9: the load of the processor at place p is above its limit.
 pub record Overloaded (m : Mode) (x : ℕ → ℕ) (h : Tick) (p : ℕ) : Type 0 where
   pub processor : p < PROCESSORS
-  pub above : AtMost (loadOf m x h (numberOf p)) LOAD-LIMIT → ⊥
+  pub above : AtMost (loadOf m x h (numberOf p)) (limitOf (numberOf p)) → ⊥
 
 -- the ticks of an iteration that processor p works
 abbrev pub shareOf : Mode → (ℕ → ℕ) → ℕ → Tick

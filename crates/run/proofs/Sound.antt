@@ -8,7 +8,7 @@ use Rattle.numbers.specs.Extreme.{First}
 use Rattle.numbers.specs.Sum.{sum}
 use Rattle.numbers.specs.Fraction.{AtMost, plus, sumOf, nothing}
 use Rattle.numbers.specs.declared.fraction.Fraction.{Fraction}
-use Rattle.units.specs.Limits.{CLOCK-LIMIT, LOAD-LIMIT}
+use Rattle.units.specs.Limits.{CLOCK-LIMIT, limitOf}
 use Rattle.run.specs.Plan.{Plan, Acts, startup, isOn, askedBy}
 
 -- A mode that starts at tick 0 and runs for ever: k firings of actor i have begun by tick x, or ended.
@@ -45,8 +45,8 @@ pub record Sound (p : Plan) : Type 0 where
   pub sized : (m c : ℕ) → T (p .listed m) → c < p .channels m → (x b e v : ℕ) → HaveBegun p m (p .from m c) x b → HaveEnded p m (p .to m c) x e
       → sum (p .production m c) b ≡ sum (p .consumption m c) e + v → v ≤ p .size m c
   -- the load of each processor is at most 1, in each mode and at each tick of each change
-  pub load : (m proc : ℕ) → T (p .listed m) → AtMost (askedOf p m proc (λ i. true)) LOAD-LIMIT
+  pub load : (m proc : ℕ) → T (p .listed m) → AtMost (askedOf p m proc (λ i. true)) (limitOf proc)
   pub change : (o l proc k : ℕ) → T (p .listed o) → T (p .listed l) → l ≢ o → p .offset o l ≤ k → k ≤ startup p o
-      → AtMost (plus (askedOf p o proc (λ i. ltb k (p .start o i))) (askedOf p l proc (λ i. leb (p .offset o l + p .start l i) k))) LOAD-LIMIT
+      → AtMost (plus (askedOf p o proc (λ i. ltb k (p .start o i))) (askedOf p l proc (λ i. leb (p .offset o l + p .start l i) k))) (limitOf proc)
   -- a change waits for the actors of both modes
   pub waits : (o l i : ℕ) → T (p .listed o) → T (p .listed l) → l ≢ o → Acts p o i → Acts p l i → p .start o i ≤ p .offset o l + p .start l i

@@ -6,7 +6,7 @@ use mathlib.Core.List.{List}
 use lib.Dec.{T}
 use Rattle.numbers.specs.Every.{Every}
 use Rattle.numbers.specs.Fraction.{AtMost}
-use Rattle.units.specs.Limits.{LOAD-LIMIT}
+use Rattle.units.specs.Limits.{limitOf}
 use Rattle.run.specs.Plan.{Plan}
 use Rattle.run.specs.Machine.{Machine, Request, refusal, delay, worst, stays, Visit, visit, Run, visits, begin, answer, run}
 use Rattle.run.specs.Firing.{begins, Ends, InPeriod, taken, made, claimed, givenBack, totalIn, openIn, asked}
@@ -37,8 +37,8 @@ pub record Demand3 (p : Plan) : Type 0 where
   pub no-overflow : Timely p (λ e vs. (m c t : ℕ) → c < p .channels m → totalIn vs m (claimed p c t) ≤ p .size m c + totalIn vs m (givenBack p e c t))
   -- .. nor holds more tokens.
   pub no-excess : Timely p (λ e vs. (m c t : ℕ) → c < p .channels m → totalIn vs m (made p e c t) ≤ p .size m c + totalIn vs m (taken p c t))
-  -- No processor is ever asked for more than its whole time.
-  pub no-overload : EveryRun p (λ s. (proc t : ℕ) → AtMost (asked p proc t (visits s)) LOAD-LIMIT)
+  -- No processor is ever asked for more than its limit: its whole time.
+  pub no-overload : EveryRun p (λ s. (proc t : ℕ) → AtMost (asked p proc t (visits s)) (limitOf proc))
   -- A mode that has ended leaves its buffers empty: no token is in them, and no place is claimed.
   pub left-empty : Timely p (λ e vs. (m c t : ℕ) → c < p .channels m → openIn p vs m t ≡ 0
       → (totalIn vs m (made p e c t) ≡ totalIn vs m (taken p c t)) × (totalIn vs m (claimed p c t) ≡ totalIn vs m (givenBack p e c t)))

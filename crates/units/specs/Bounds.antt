@@ -5,7 +5,7 @@ use Rattle.units.specs.declared.Firing.{Firing}
 use Rattle.units.specs.declared.Token.{Token}
 use Rattle.units.specs.Ticks.{tick, timesTicks}
 use Rattle.units.specs.Firings.{firing}
-use Rattle.units.specs.Tokens.{token, timesTokens}
+use Rattle.units.specs.Tokens.{timesTokens}
 use Rattle.units.specs.Limits.{ACTORS, PHASES, MOST-RATE, ITERATION-LIMIT}
 
 -- an actor fires at most once a tick, so an iteration has no more firings of it, and no more cycles, than ticks

@@ -49,6 +49,10 @@ CLOCK-LIMIT = tick (2 ^ 62)
 abbrev pub LOAD-LIMIT : Fraction
 LOAD-LIMIT = record { over = 1; under = 1 }
 
+-- the limit of the processor with number p
+abbrev pub limitOf : ℕ → Fraction
+limitOf p = LOAD-LIMIT
+
 -- all of them
 abbrev pub allLimits : Limits
 allLimits =

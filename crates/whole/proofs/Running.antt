@@ -15,7 +15,7 @@ use Rattle.numbers.specs.Decides.{decides-true}
 use Rattle.numbers.specs.Fraction.{AtMost, sum-alike, nothing}
 use Rattle.numbers.specs.Tab.{length-tab, getD-tab, getD-replicated}
 use Rattle.units.specs.Bounds.{MOST-START}
-use Rattle.units.specs.Limits.{MODES, ACTORS, MOST-WCET, LOAD-LIMIT}
+use Rattle.units.specs.Limits.{MODES, ACTORS, MOST-WCET, LOAD-LIMIT, limitOf}
 use Rattle.units.specs.declared.Tick.{Tick}
 use Rattle.units.specs.declared.Firing.{Firing}
 use Rattle.units.specs.Ticks.{tick}
@@ -79,7 +79,7 @@ module _ (m : Mode) (proper : ProperMode m) where
         go i l true e false = refl
         go i l false e c = refl
 
-    borne : ((q : ℕ) → Overloaded m x (p .iteration) q → ⊥) → Bearable LOAD-LIMIT (runningOf m p)
+    borne : ((q : ℕ) → Overloaded m x (p .iteration) q → ⊥) → Bearable limitOf (runningOf m p)
     borne bears q l h = subst (λ f. AtMost f LOAD-LIMIT) (sym (asks q)) (go (decLe _ _))
       where
         go : Dec (AtMost (loadOf m x (p .iteration) q) LOAD-LIMIT) → AtMost (loadOf m x (p .iteration) q) LOAD-LIMIT

@@ -4,7 +4,7 @@ use mathlib.Core.Path.{_≡_, refl, sym, ap, ap₂, _∙_}
 use Prim.Native.Nat.{_-_, _*_, _/_, _%_, _≤_}
 use native.Mathlib.Omega.{arith}
 use Rattle.numbers.specs.Extreme.{mostOf, most-next}
-use Rattle.units.specs.Limits.{ACTORS, LOAD-LIMIT}
+use Rattle.units.specs.Limits.{ACTORS, limitOf}
 use Rattle.units.specs.Ticks.{tick, greaterTick}
 use Rattle.change.specs.Waits.{pairWait}
 use Rattle.change.proofs.Offsets.{since-part, until-part}
@@ -12,7 +12,7 @@ use Rattle.change.proofs.wait.offset_of.Statement.{statement}
 use Rattle.change.proofs.wait.offset_of.Tie as tie
 
 abbrev Inv-loop : tie.InvT-loop
-Inv-loop old new most₀ n₀ most n = (n ≤ ACTORS * ACTORS) × (most ≡ tick (mostOf (pairWait LOAD-LIMIT old new) n))
+Inv-loop old new most₀ n₀ most n = (n ≤ ACTORS * ACTORS) × (most ≡ tick (mostOf (pairWait limitOf old new) n))
 
 abbrev μ-loop : tie.MeasureT-loop
 μ-loop old new most₀ n₀ most n = ACTORS * ACTORS - n
@@ -35,7 +35,7 @@ loop-again c =
     let p = c .before .before in (
       omega (arith, t .loop-test .taken),
       c .greater .ensures ∙ ap₂ greaterTick (l .inv .1) (rw (p .before .before .before .before .part .ensures, p .part2 .ensures) at (c .before .wait .ensures))
-          ∙ ap tick (sym (most-next (pairWait LOAD-LIMIT (t .before .before .args .t1) (t .before .before .args .t2)) (l .n))),
+          ∙ ap tick (sym (most-next (pairWait limitOf (t .before .before .args .t1) (t .before .before .args .t2)) (l .n))),
     )
 
 returns : tie.Need-returns Inv-loop μ-loop

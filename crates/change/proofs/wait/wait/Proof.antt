@@ -10,7 +10,7 @@ use lib.Dec.{eqb}
 use Rattle.numbers.specs.Decides.{Decides, leb-is, decides-true}
 use Rattle.numbers.specs.Fraction.{AtMost, plus, atMostb}
 use Rattle.numbers.specs.declared.fraction.Fraction.{Fraction}
-use Rattle.units.specs.Limits.{ITERATION-LIMIT, LOAD-LIMIT}
+use Rattle.units.specs.Limits.{ITERATION-LIMIT, LOAD-LIMIT, limitOf}
 use Rattle.units.specs.Ticks.{tick}
 use Rattle.change.specs.declared.wait.Side.{Side}
 use Rattle.change.specs.Waits.{waitOf}
@@ -18,7 +18,7 @@ use Rattle.change.proofs.wait.wait.Statement.{statement}
 use Rattle.change.proofs.wait.wait.Tie as tie
 
 -- none for an actor that starts no later
-no-wait : (a b : Side) → a .start .0 ≤ b .start .0 → tick 0 ≡ waitOf LOAD-LIMIT a b
+no-wait : (a b : Side) → a .start .0 ≤ b .start .0 → tick 0 ≡ waitOf limitOf a b
 no-wait a b h = let e : a .start .0 - b .start .0 ≡ 0 = omega arith in rw e (go (eqb (a .processor) (b .processor)) (atMostb (plus (a .asked) (b .asked)) LOAD-LIMIT))
   where
     go : (x y : Bool) → tick 0 ≡ cond x (cond y (tick 0) (tick 0)) (tick 0)
