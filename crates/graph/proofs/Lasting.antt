@@ -15,7 +15,7 @@ use Rattle.numbers.specs.Extreme.{mostOf, most-greatest}
 use Rattle.numbers.specs.Multiples.{LcmOfAll, lcm-none, lcm-more, lcm-past, lcm-pos}
 use Rattle.numbers.specs.Quotient.{roundedOf, rounded-of}
 use Rattle.numbers.specs.Reckoned.{lcmOf, lcm-of}
-use Rattle.numbers.specs.Tab.{length-tab, getD-tab, is-tab, tab-at, tab-same}
+use Rattle.numbers.specs.Tab.{length-tab, getD-tab, tab-at, tab-same}
 use Rattle.units.specs.declared.Tick.{Tick}
 use Rattle.units.specs.declared.Firing.{Firing}
 use Rattle.units.specs.Ticks.{tick, greaterTick}
@@ -241,13 +241,6 @@ module _ (m : Mode) (proper : ProperMode m) where
         above e y n h (pos-of-ne-zero (λ (z : n ≡ 0). omega (arith, balances .some i a, scaled i a, ap (λ (k : ℕ). k * X i) z))) scaled iteration
 
     -- the lists that are found, by the rule
-    pub counts-are : ((i : ℕ) → i < ACTORS → (Active m i → ⊥) → X i ≡ 0) → x ≡ ofActors m X 0
-    counts-are none = is-tab ACTORS (λ i. cond (hasb (m .active) i) (X i) 0) x 0 (counted .small .long) (λ i l. go i l (hasb (m .active) i) refl)
-      where
-        go : (i : ℕ) → i < ACTORS → (b : Bool) → hasb (m .active) i ≡ b → X i ≡ cond b (X i) 0
-        go i l true e = refl
-        go i l false e = none i l (λ a. decides-false (has-decides (m .active) i) e (a .1))
-
     pub firings-are : qs ≡ ofActors m (firingsOf m X) (firing 0)
     firings-are = tab-same ACTORS (firingsOf m X) (λ i. cond (hasb (m .active) i) (firingsOf m X i) (firing 0)) (λ i l. go i l (hasb (m .active) i) refl)
       where

@@ -265,16 +265,9 @@ module _ (m : Mode) (proper : ProperMode m) (ds : List ℕ) (ranked : Ranked m d
       go c (fine x p) e = p
       go c (over f) e = absurd (true≢false (sym e))
 
-  -- all within the limit, and 0 for actors that are not active
+  -- all within the limit
   pub counts-small : Small (countsOf m ds s .counts)
   counts-small = small-from m (entriesOf m) ds s (ACTORS * ACTORS)
-
-  pub counts-none : (i : ℕ) → i < ACTORS → (Active m i → ⊥) → getD (countsOf m ds s .counts) i 0 ≡ 0
-  counts-none i l n = go found (told (ACTORS * ACTORS))
-    where
-      go : (c : Counts) → Told (ACTORS * ACTORS) c → getD (c .counts) i 0 ≡ 0
-      go c (fine x p) = p .none i l (λ r. n (r .0))
-      go c (over f) = getD-replicated {A = ℕ} ACTORS i 0
 
   -- where a count is above the limit, so is one of all balancing counts
   pub counts-above : countsOf m ds s .good ≡ false → Unbalanced m

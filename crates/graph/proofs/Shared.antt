@@ -17,7 +17,7 @@ use Rattle.numbers.specs.Fraction.{Proper, AtMost, Same, sum-proper, sum-common
 use Rattle.numbers.specs.declared.fraction.Fraction.{Fraction}
 use Rattle.numbers.specs.Lowest.{FirstPasses, NonePasses, lowestOr, lowest-next, lowest-none, lowest-is, sought}
 use Rattle.numbers.specs.Sum.{sum}
-use Rattle.numbers.specs.Tab.{tab, getD-tab, tab-same}
+use Rattle.numbers.specs.Tab.{getD-tab}
 use Rattle.units.specs.declared.Tick.{Tick}
 use Rattle.units.specs.Ticks.{tick, plusTicks}
 use Rattle.units.specs.Bounds.{MOST-CYCLES}
@@ -29,11 +29,15 @@ use Rattle.tables.specs.declared.Mode.{Mode}
 use Rattle.tables.specs.Shape.{noActor, actorAt}
 use Rattle.tables.specs.Proper.{ProperMode}
 use Rattle.graph.specs.Balance.{Iteration, firingsOf, workIn}
-use Rattle.graph.specs.Load.{isOn, askedBy, loadOf, Overloaded, shareOf}
+use Rattle.graph.specs.Load.{isOn, askedBy, loadOf, Overloaded}
 use Rattle.graph.specs.Laws.{iteration-pos, period-whole, period-fits}
 use Rattle.graph.specs.Counts.{Counted}
 use Rattle.graph.specs.Lengths.{Light, firingsIn, worksIn, shareFrom, sharesIn, overloadedOf}
 use Rattle.graph.proofs.Lasting.{works-at}
+
+-- the ticks of an iteration that processor p works
+abbrev shareOf : Mode → (ℕ → ℕ) → ℕ → Tick
+shareOf m x p = tick (sum (λ i. cond (isOn m p i) (workIn m x i .0) 0) ACTORS)
 
 -- whether the load of the processor at place p is found to be above the limit
 abbrev pub overb : List Tick → Tick → ℕ → Bool
@@ -90,11 +94,6 @@ module _ (m : Mode) (proper : ProperMode m) (x : List ℕ) (counted : Counted m 
       go true e false ih = omega arith
       go false e true ih = rw (works-at m proper x counted n h) (omega (arith, no-work n h e))
       go false e false ih = omega arith
-
-  pub shares-are : shares ≡ tab PROCESSORS (λ p. shareOf m X (numberOf p))
-  shares-are =
-      tab-same PROCESSORS (λ p. shareFrom (m .actors) ws (numberOf p) ACTORS) (λ p. shareOf m X (numberOf p))
-      (λ p l. λ i. tick (share-is (numberOf p) ACTORS (le-refl ACTORS) i))
 
   module _ (h : Tick) (iteration : Iteration m X h) (p : ℕ) where
     -- what an actor asks of its processor is its work, as a part of the iteration

@@ -254,7 +254,7 @@ module _ (m : Mode) (proper : ProperMode m) where
   told (suc n) i = told-next n (orderFrom (predsOf m) (m .active) n) (order-long (predsOf m) (m .active) n) (told n) i
 
   -- an actor that is not active has depth 0
-  pub order-unlisted : (i : ℕ) → i < ACTORS → (Active m i → ⊥) → getD (sorted m .depths) i 0 ≡ 0
+  order-unlisted : (i : ℕ) → i < ACTORS → (Active m i → ⊥) → getD (sorted m .depths) i 0 ≡ 0
   order-unlisted i l n = go (told ACTORS i)
     where
       go : Told (sorted m) ACTORS i → getD (sorted m .depths) i 0 ≡ 0
@@ -264,7 +264,7 @@ module _ (m : Mode) (proper : ProperMode m) where
 
   -- where no actor is left all depths are found
   pub order-ranked : sorted m .left ≡ 0 → Ranked m (sorted m .depths)
-  order-ranked e = record { long = order-long (predsOf m) (m .active) ACTORS; depth = λ i a. go i a (told ACTORS i) }
+  order-ranked e = record { long = order-long (predsOf m) (m .active) ACTORS; depth = λ i a. go i a (told ACTORS i); no-depth = order-unlisted }
     where
       go : (i : ℕ) → Active m i → Told (sorted m) ACTORS i → Depth m i (getD (sorted m .depths) i 0)
       go i a (done d x h b g) = rw (x .depth) g

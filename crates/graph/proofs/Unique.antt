@@ -1,6 +1,7 @@
 -- A mode is judged in one way only. Assumes nothing.
 use mathlib.Core.Path.{_≡_, refl, sym, ap, subst, _∙_}
 use mathlib.Core.Bool.{Bool, true, false, cond, _&&_}
+use mathlib.Core.List.{List}
 use mathlib.Core.Logic.{_⊎_, inl, inr}
 use Prim.Native.Nat.{ℕ, _<_}
 use native.Mathlib.Nat.{le-antisymm, not-le-of-lt}
@@ -12,11 +13,10 @@ use Rattle.numbers.specs.Bits.{Has, hasb, bit, has-decides, has-or-not}
 use Rattle.numbers.specs.Decides.{decides-true}
 use Rattle.numbers.specs.Extreme.{greatest-unique}
 use Rattle.numbers.specs.Fraction.{AtMost, sum-alike, nothing}
-use Rattle.numbers.specs.Sum.{sum-same}
 use Rattle.numbers.specs.Tab.{tab-same}
 use Rattle.units.specs.Ticks.{tick}
 use Rattle.units.specs.declared.Tick.{Tick}
-use Rattle.units.specs.Limits.{ACTORS, PROCESSORS, LOAD-LIMIT}
+use Rattle.units.specs.Limits.{ACTORS, LOAD-LIMIT}
 use Rattle.units.specs.Firings.{firing}
 use Rattle.period.specs.Period.{periodOf}
 use Rattle.terms.specs.Place.{numberOf}
@@ -24,9 +24,10 @@ use Rattle.tables.specs.declared.Mode.{Mode}
 use Rattle.tables.specs.Shape.{Active, actorAt}
 use Rattle.graph.specs.declared.Verdict.the-variants.{Overloaded as IsOverloaded}
 use Rattle.graph.specs.declared.Judgement.{Judgement}
+use Rattle.graph.specs.Order.{Ranked}
 use Rattle.graph.specs.Ends.{Only}
-use Rattle.graph.specs.Balance.{Smallest, Iteration, firingsOf, workIn}
-use Rattle.graph.specs.Load.{Overloaded, isOn, askedBy, loadOf, shareOf}
+use Rattle.graph.specs.Balance.{Smallest, Iteration, firingsOf}
+use Rattle.graph.specs.Load.{Overloaded, isOn, askedBy, loadOf}
 use Rattle.graph.specs.Laws.{iteration-one, iteration-same}
 use Rattle.graph.specs.Judged.{refusedBy, ofActors, Numbers, Judged, cyclic, no-ends, unbalanced, overloaded, sound}
 
@@ -54,9 +55,6 @@ module _ (m : Mode) where
       go false h q = refl
 
   module _ (x y : ℕ → ℕ) (same : (i : ℕ) → Active m i → x i ≡ y i) where
-    shares-same : (p : ℕ) → shareOf m x p ≡ shareOf m y p
-    shares-same p = ap tick (sum-same _ _ ACTORS (λ i l. on-actors (λ i. workIn m x i .0) (λ i. workIn m y i .0) 0 p i l (λ a. ap (λ (n : ℕ). workIn m (λ (j : ℕ). n) i .0) (same i a))))
-
     load-same : (h : Tick) (p : ℕ) → loadOf m x h p ≡ loadOf m y h p
     load-same h p = sum-alike _ _ ACTORS (λ i l. on-actors (askedBy m x h) (askedBy m y h) nothing p i l (λ a. ap (λ (n : ℕ). askedBy m (λ (j : ℕ). n) h i) (same i a)))
 
@@ -74,11 +72,11 @@ module _ (m : Mode) where
   over-again : (x y : ℕ → ℕ) {h g : Tick} → Smallest m x → Smallest m y → Iteration m x h → Iteration m y g → (p : ℕ) → Overloaded m x h p → Overloaded m y g p
   over-again x y {h} {g} p q i j n o = subst (λ t. Overloaded m y t n) (lengths-same x y p q i j) (over-same x y (smallest-same x y p q) h n o)
 
-  depths-same : (x y : ℕ → ℕ) (a b : Judgement) → Numbers m x a → Numbers m y b → a .depths ≡ b .depths
-  depths-same x y a b p q =
-      ext-getD 0 (a .depths) (b .depths) (p .depths-long ∙ sym (q .depths-long)) (λ i l. at i (omega (arith, p .depths-long)) (has-or-not (m .active) i))
+  depths-same : (a b : List ℕ) → Ranked m a → Ranked m b → a ≡ b
+  depths-same a b p q =
+      ext-getD 0 a b (p .long ∙ sym (q .long)) (λ i l. at i (omega (arith, p .long)) (has-or-not (m .active) i))
     where
-      at : (i : ℕ) → i < ACTORS → Has (m .active) i ⊎ (bit (m .active) i ≡ 0) → getD (a .depths) i 0 ≡ getD (b .depths) i 0
+      at : (i : ℕ) → i < ACTORS → Has (m .active) i ⊎ (bit (m .active) i ≡ 0) → getD a i 0 ≡ getD b i 0
       at i l (inl h) = greatest-unique _ (p .depth i (l, h)) (q .depth i (l, h))
       at i l (inr n) = let no : Active m i → ⊥ = λ w. omega (arith, w .1) in p .no-depth i l no ∙ sym (q .no-depth i l no)
 
@@ -91,12 +89,10 @@ module _ (m : Mode) where
         source = only-unique _ (p .ends .0) (q .ends .0) i;
         sink = only-unique _ (p .ends .1) (q .ends .1) i;
         iteration = h i;
-        depths = depths-same x y a b p q i;
-        counts = (p .counts ∙ of-actors x y 0 same ∙ sym (q .counts)) i;
+        depths = depths-same _ _ (p .ranked) (q .ranked) i;
         firings = (p .firings ∙ of-actors (firingsOf m x) (firingsOf m y) (firing 0) (λ k c. ap (λ (n : ℕ). firingsOf m (λ (j : ℕ). n) k) (same k c)) ∙ sym (q .firings)) i;
         periods = (p .periods ∙ of-actors (λ k. periodOf (a .iteration) (firingsOf m x k)) (λ k. periodOf (b .iteration) (firingsOf m y k)) (tick 0)
             (λ k c. ap (λ (n : ℕ). periodOf (a .iteration) (firingsOf m (λ (j : ℕ). n) k)) (same k c) ∙ ap (λ (t : Tick). periodOf t (firingsOf m y k)) h) ∙ sym (q .periods)) i;
-        shares = (p .shares ∙ tab-same PROCESSORS _ _ (λ k l. shares-same x y same (numberOf k)) ∙ sym (q .shares)) i;
       }
 
   pub judged-unique : {a b : Judgement} → Judged m a → Judged m b → a ≡ b

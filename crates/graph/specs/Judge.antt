@@ -20,30 +20,28 @@ use Rattle.graph.specs.Counts.{countsOf, balancesb}
 use Rattle.graph.specs.Lengths.{firingsIn, worksIn, lengthOf, periodsIn, sharesIn, overloadedOf}
 
 -- the judgement of a mode with these numbers
-abbrev pub soundBy : Mode → List ℕ → ℕ → ℕ → List ℕ → List Firing → List Tick → Tick → Judgement
-soundBy m ds s t x qs ws h =
+abbrev pub soundBy : Mode → List ℕ → ℕ → ℕ → List Firing → Tick → Judgement
+soundBy m ds s t qs h =
     record {
       verdict = Sound;
       source = s;
       sink = t;
       iteration = h;
       depths = ds;
-      counts = x;
       firings = qs;
       periods = periodsIn h qs (m .active);
-      shares = sharesIn (m .actors) ws;
     }
 
 -- where the iteration is within its limit, the load decides
-abbrev pub loaded : Mode → List ℕ → ℕ → ℕ → List ℕ → List Firing → List Tick → Length → Judgement
-loaded m ds s t x qs ws TooLong = refusedBy Unbalanced
-loaded m ds s t x qs ws (Is h) =
-    cond (eqb (overloadedOf (sharesIn (m .actors) ws) h) PROCESSORS) (soundBy m ds s t x qs ws h)
+abbrev pub loaded : Mode → List ℕ → ℕ → ℕ → List Firing → List Tick → Length → Judgement
+loaded m ds s t qs ws TooLong = refusedBy Unbalanced
+loaded m ds s t qs ws (Is h) =
+    cond (eqb (overloadedOf (sharesIn (m .actors) ws) h) PROCESSORS) (soundBy m ds s t qs h)
     (refusedBy (Overloaded (overloadedOf (sharesIn (m .actors) ws) h)))
 
 unfoldable pub timedOf : Mode → List ℕ → ℕ → ℕ → List ℕ → Judgement
 timedOf m ds s t x =
-    loaded m ds s t x (firingsIn (m .actors) x) (worksIn (m .actors) (firingsIn (m .actors) x))
+    loaded m ds s t (firingsIn (m .actors) x) (worksIn (m .actors) (firingsIn (m .actors) x))
     (lengthOf (worksIn (m .actors) (firingsIn (m .actors) x)) (firingsIn (m .actors) x) (m .active))
 
 abbrev pub byCounts : Mode → List ℕ → ℕ → ℕ → Counts → Judgement

@@ -2,26 +2,24 @@
 use mathlib.Core.Path.{_≡_}
 use mathlib.Core.Bool.{cond}
 use mathlib.Core.List.{List}
-use Prim.Native.Nat.{ℕ, _≤_, _<_}
-use lib.ListN.{length, getD, replicate}
+use Prim.Native.Nat.{ℕ, _≤_}
+use lib.ListN.{replicate}
 use Rattle.numbers.specs.Bits.{hasb}
 use Rattle.numbers.specs.Extreme.{Least}
 use Rattle.numbers.specs.Tab.{tab}
 use Rattle.units.specs.declared.Tick.{Tick}
 use Rattle.units.specs.Ticks.{tick}
-use Rattle.units.specs.Limits.{ACTORS, PROCESSORS, ITERATION-LIMIT}
+use Rattle.units.specs.Limits.{ACTORS, ITERATION-LIMIT}
 use Rattle.units.specs.Firings.{firing}
 use Rattle.period.specs.Period.{periodOf}
-use Rattle.terms.specs.Place.{numberOf}
 use Rattle.tables.specs.declared.Mode.{Mode}
-use Rattle.tables.specs.Shape.{Active}
 use Rattle.graph.specs.declared.Verdict.{Verdict}
 use Rattle.graph.specs.declared.Verdict.the-variants.{Cyclic as IsCyclic, Ends as HasNoEnds, Unbalanced as IsUnbalanced, Overloaded as IsOverloaded, Sound as IsSound}
 use Rattle.graph.specs.declared.Judgement.{Judgement}
-use Rattle.graph.specs.Order.{Cyclic, Depth}
+use Rattle.graph.specs.Order.{Cyclic, Ranked}
 use Rattle.graph.specs.Ends.{Ends, NoEnds}
 use Rattle.graph.specs.Balance.{Smallest, Iteration, Unbalanced, firingsOf}
-use Rattle.graph.specs.Load.{Overloaded, shareOf}
+use Rattle.graph.specs.Load.{Overloaded}
 
 -- a refused mode comes with no numbers
 abbrev pub refusedBy : Verdict → Judgement
@@ -32,10 +30,8 @@ refusedBy v =
       sink = 0;
       iteration = tick 0;
       depths = replicate ACTORS 0;
-      counts = replicate ACTORS 0;
       firings = replicate ACTORS (firing 0);
       periods = replicate ACTORS (tick 0);
-      shares = replicate PROCESSORS (tick 0);
     }
 
 -- for each place what f gives to an active actor, and z where there is none
@@ -49,13 +45,9 @@ pub record Numbers (m : Mode) (x : ℕ → ℕ) (j : Judgement) : Type 0 where
   pub smallest : Smallest m x
   pub iteration : Iteration m x (j .iteration)
   pub within : j .iteration .0 ≤ ITERATION-LIMIT .0
-  pub depths-long : length (j .depths) ≡ ACTORS
-  pub depth : (i : ℕ) → Active m i → Depth m i (getD (j .depths) i 0)
-  pub no-depth : (i : ℕ) → i < ACTORS → (Active m i → ⊥) → getD (j .depths) i 0 ≡ 0
-  pub counts : j .counts ≡ ofActors m x 0
+  pub ranked : Ranked m (j .depths)
   pub firings : j .firings ≡ ofActors m (firingsOf m x) (firing 0)
   pub periods : j .periods ≡ ofActors m (λ i. periodOf (j .iteration) (firingsOf m x i)) (tick 0)
-  pub shares : j .shares ≡ tab PROCESSORS (λ p. shareOf m x (numberOf p))
 
 -- the verdict: refusals 6 to 9 in order, each only where no earlier one applies
 pub data Judged (m : Mode) : Judgement → Type 0 where

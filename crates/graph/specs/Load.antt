@@ -3,17 +3,15 @@ use mathlib.Core.Bool.{Bool, cond, _&&_}
 use Prim.Native.Nat.{ℕ, _<_}
 use lib.Dec.{eqb}
 use Rattle.numbers.specs.Bits.{hasb}
-use Rattle.numbers.specs.Sum.{sum}
 use Rattle.numbers.specs.Fraction.{sumOf, AtMost, nothing}
 use Rattle.numbers.specs.declared.fraction.Fraction.{Fraction}
 use Rattle.units.specs.declared.Tick.{Tick}
-use Rattle.units.specs.Ticks.{tick}
 use Rattle.units.specs.Limits.{ACTORS, PROCESSORS, limitOf}
 use Rattle.period.specs.Period.{periodOf, partOf}
 use Rattle.terms.specs.Place.{numberOf}
 use Rattle.tables.specs.declared.Mode.{Mode}
 use Rattle.tables.specs.Shape.{actorAt}
-use Rattle.graph.specs.Balance.{firingsOf, workIn}
+use Rattle.graph.specs.Balance.{firingsOf}
 
 -- actor i is active on processor p
 abbrev pub isOn : Mode → ℕ → ℕ → Bool
@@ -31,7 +29,3 @@ loadOf m x h p = sumOf (λ i. cond (isOn m p i) (askedBy m x h i) nothing) ACTOR
 pub record Overloaded (m : Mode) (x : ℕ → ℕ) (h : Tick) (p : ℕ) : Type 0 where
   pub processor : p < PROCESSORS
   pub above : AtMost (loadOf m x h (numberOf p)) (limitOf (numberOf p)) → ⊥
-
--- the ticks of an iteration that processor p works
-abbrev pub shareOf : Mode → (ℕ → ℕ) → ℕ → Tick
-shareOf m x p = tick (sum (λ i. cond (isOn m p i) (workIn m x i .0) 0) ACTORS)

@@ -30,7 +30,8 @@ pub data Leads (m : Mode) : ℕ → ℕ → Type 0 where
 abbrev pub Depth : Mode → ℕ → ℕ → Type 0
 Depth m i = Greatest (λ n. Leads m n i)
 
--- depths for the actors of a mode
+-- depths for the actors of a mode; 0 for an actor that is not active
 pub record Ranked (m : Mode) (ds : List ℕ) : Type 0 where
   pub long : length ds ≡ ACTORS
   pub depth : (i : ℕ) → Active m i → Depth m i (getD ds i 0)
+  pub no-depth : (i : ℕ) → i < ACTORS → (Active m i → ⊥) → getD ds i 0 ≡ 0

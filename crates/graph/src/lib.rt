@@ -37,10 +37,8 @@ pub struct Judgement {
     pub sink: usize,
     pub iteration: Tick,
     pub depths: [usize; ACTORS],
-    pub counts: [u64; ACTORS],
     pub firings: [Firing; ACTORS],
     pub periods: [Tick; ACTORS],
-    pub shares: [Tick; PROCESSORS],
 }
 
 fn refused(verdict: Verdict) -> Judgement
@@ -52,10 +50,8 @@ fn refused(verdict: Verdict) -> Judgement
         sink: 0,
         iteration: Tick::NONE,
         depths: [0; ACTORS],
-        counts: [0; ACTORS],
         firings: [Firing::NONE; ACTORS],
         periods: [Tick::NONE; ACTORS],
-        shares: [Tick::NONE; PROCESSORS],
     }
 }
 
@@ -88,10 +84,8 @@ fn timed(
         sink,
         iteration,
         depths,
-        counts,
         firings,
         periods: iteration::periods_of(iteration, firings, active),
-        shares,
     }
 }
 

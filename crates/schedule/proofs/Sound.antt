@@ -113,22 +113,22 @@ module _ (m : Mode) (j : Judgement) (proper : ProperMode m) (x : ℕ → ℕ) (a
   depth-small i = go (decLt i ACTORS)
     where
       go : Dec (i < ACTORS) → getD (j .depths) i 0 < ACTORS
-      go (no l) = omega (arith, List·getD-eq-default (j .depths) 0 {n = i} (omega (arith, l, n .depths-long)))
+      go (no l) = omega (arith, List·getD-eq-default (j .depths) 0 {n = i} (omega (arith, l, n .ranked .long)))
       go (yes l) =
-          ⊎-elim (λ (y : Has (m .active) i). depth-below m proper i (getD (j .depths) i 0) (l, y) (n .depth i (l, y)) acyclic)
-          (λ (z : bit (m .active) i ≡ 0). omega (arith, n .no-depth i l (λ a. omega (arith, a .1)))) (has-or-not (m .active) i)
+          ⊎-elim (λ (y : Has (m .active) i). depth-below m proper i (getD (j .depths) i 0) (l, y) (n .ranked .depth i (l, y)) acyclic)
+          (λ (z : bit (m .active) i ≡ 0). omega (arith, n .ranked .no-depth i l (λ a. omega (arith, a .1)))) (has-or-not (m .active) i)
 
   pub judged-ready : Ready m (j .periods) (j .depths)
   judged-ready =
       record {
         proper = proper;
         periods-long = ap length (n .periods) ∙ length-tab ACTORS _;
-        depths-long = n .depths-long;
+        depths-long = n .ranked .long;
         below = depth-small;
-        idle = n .no-depth;
+        idle = n .ranked .no-depth;
         deeper = λ k h.
             let c = proper .channel k h in
-            joins-deeper m proper _ _ _ _ (k, h, refl, refl) (n .depth _ (c .from, c .from-active)) (n .depth _ (c .to, c .to-active));
+            joins-deeper m proper _ _ _ _ (k, h, refl, refl) (n .ranked .depth _ (c .from, c .from-active)) (n .ranked .depth _ (c .to, c .to-active));
         paced = channel-paced;
       }
 

@@ -3,7 +3,6 @@ use borrow.Author.Needs.{needs}
 use mathlib.Core.Path.{_≡_, sym, ap, subst, _∙_}
 use mathlib.Core.List.{List}
 use Prim.Native.Nat.{ℕ}
-use lib.ListN.{getD}
 use Rattle.numbers.specs.Bits.{size}
 use Rattle.units.specs.Limits.{ACTORS}
 use Rattle.graph.specs.declared.order.Order.{Order}
@@ -11,7 +10,7 @@ use Rattle.graph.specs.Order.{Ranked}
 use Rattle.graph.specs.Ends.{Ends}
 use Rattle.graph.specs.Judged.{Judged, cyclic, no-ends}
 use Rattle.graph.specs.Rounds.{orderOf, firstsOf, lastsOf, lowestOf}
-use Rattle.graph.proofs.Sorted.{sorted, order-ranked, order-unlisted, order-cyclic, order-acyclic}
+use Rattle.graph.proofs.Sorted.{sorted, order-ranked, order-cyclic, order-acyclic}
 use Rattle.graph.proofs.Bounds.{firsts, lasts, ends-found, ends-none}
 use Rattle.graph.proofs.Judging.{balanced-judged}
 use Rattle.graph.proofs.judge.Statement.{statement}
@@ -86,8 +85,7 @@ returns-4 : tie.Need-returns-4
 returns-4 c =
     let r = root (c .before) in
     subst (Judged (r .args .mode)) (sym (c .balanced .ensures))
-    (balanced-judged (r .args .mode) (r .pre) _ (ranked (c .before))
-    (λ i l n. ap (λ (o : Order). getD (o .depths) i 0) (ordered (c .before)) ∙ order-unlisted (r .args .mode) (r .pre) i l n) _ _ (ends (c .before)))
+    (balanced-judged (r .args .mode) (r .pre) _ (ranked (c .before)) _ _ (ends (c .before)))
 
 pub judge-spec : {M : Type 1} → statement M
 judge-spec =

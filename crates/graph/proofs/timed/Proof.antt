@@ -9,7 +9,6 @@ use Rattle.numbers.specs.Tab.{length-tab}
 use Rattle.units.specs.declared.Tick.{Tick}
 use Rattle.units.specs.declared.Firing.{Firing}
 use Rattle.units.specs.Limits.{PROCESSORS}
-use Rattle.units.specs.Limits.{PROCESSORS}
 use Rattle.period.specs.declared.Length.the-variants.{Is}
 use Rattle.tables.specs.declared.Mode.{Mode}
 use Rattle.graph.specs.declared.Verdict.the-variants.{Overloaded, Sound}
@@ -22,11 +21,11 @@ use Rattle.graph.proofs.timed.Statement.{statement}
 use Rattle.graph.proofs.timed.Tie as tie
 
 -- by the processor that is found
-module _ (m : Mode) (ds : List ℕ) (s t : ℕ) (x : List ℕ) (qs : List Firing) (ws : List Tick) (h : Tick) (o : ℕ) (e : o ≡ overloadedOf (sharesIn (m .actors) ws) h) where
-  over : (o ≡ PROCESSORS → ⊥) → refusedBy (Overloaded o) ≡ loaded m ds s t x qs ws (Is h)
+module _ (m : Mode) (ds : List ℕ) (s t : ℕ) (qs : List Firing) (ws : List Tick) (h : Tick) (o : ℕ) (e : o ≡ overloadedOf (sharesIn (m .actors) ws) h) where
+  over : (o ≡ PROCESSORS → ⊥) → refusedBy (Overloaded o) ≡ loaded m ds s t qs ws (Is h)
   over n = rw (← e, ne-eqb o PROCESSORS n)
 
-  fine : o ≡ PROCESSORS → soundBy m ds s t x qs ws h ≡ loaded m ds s t x qs ws (Is h)
+  fine : o ≡ PROCESSORS → soundBy m ds s t qs h ≡ loaded m ds s t qs ws (Is h)
   fine z = rw (← e, eq-eqb o PROCESSORS z)
 
 firings-of-requires : tie.Need-firings-of-requires
@@ -61,7 +60,7 @@ returns c =
     let a = c .before .before .before .before .before .before .before .args in
     let qs = firingsIn (a .mode .actors) (a .counts) in
     c .refused .ensures
-    ∙ ap (loaded (a .mode) (a .depths) (a .source) (a .sink) (a .counts) qs (worksIn (a .mode .actors) qs)) (sym (c .before .enum-told .given .1) ∙ long (c .before .before .before))
+    ∙ ap (loaded (a .mode) (a .depths) (a .source) (a .sink) qs (worksIn (a .mode .actors) qs)) (sym (c .before .enum-told .given .1) ∙ long (c .before .before .before))
 
 shares-of-requires : tie.Need-shares-of-requires
 shares-of-requires c κs = (c .before .before .before .before .before .before .before .pre .0 .actors-long, light (c .before .before .before .before))
@@ -102,8 +101,8 @@ returns-2 c =
     let ws = worksIn (a .mode .actors) qs in
     let k = c .before .before .before .before in
     c .refused2 .ensures
-    ∙ over (a .mode) (a .depths) (a .source) (a .sink) (a .counts) qs ws (iteration k) _ (found (c .before .before)) (c .before .if1 .taken)
-    ∙ ap (loaded (a .mode) (a .depths) (a .source) (a .sink) (a .counts) qs ws) (sym (is k))
+    ∙ over (a .mode) (a .depths) (a .source) (a .sink) qs ws (iteration k) _ (found (c .before .before)) (c .before .if1 .taken)
+    ∙ ap (loaded (a .mode) (a .depths) (a .source) (a .sink) qs ws) (sym (is k))
 
 periods-of-requires : tie.Need-periods-of-requires
 periods-of-requires c κs = fires (c .before .before .before .before .before .before .before .before)
@@ -123,13 +122,11 @@ returns-3 c =
       sink = a .sink;
       iteration = iteration k;
       depths = a .depths;
-      counts = a .counts;
       firings = f i;
       periods = periods i;
-      shares = shares (c .before .before .before) i;
     })
-    ∙ fine (a .mode) (a .depths) (a .source) (a .sink) (a .counts) qs ws (iteration k) _ (found (c .before .before)) (c .before .if1 .left)
-    ∙ ap (loaded (a .mode) (a .depths) (a .source) (a .sink) (a .counts) qs ws) (sym (is k))
+    ∙ fine (a .mode) (a .depths) (a .source) (a .sink) qs ws (iteration k) _ (found (c .before .before)) (c .before .if1 .left)
+    ∙ ap (loaded (a .mode) (a .depths) (a .source) (a .sink) qs ws) (sym (is k))
 
 pub timed-spec : {M : Type 1} → statement M
 timed-spec =
