@@ -1,4 +1,4 @@
--- Model of starts.rt and rooms.rt: how the starts are found, depth by depth, and at each depth channel by channel.
+-- Model of starts.rt and sizes.rt: how the starts are found, depth by depth, and at each depth channel by channel.
 use mathlib.Core.Path.{_≡_}
 use mathlib.Core.List.{List}
 use Prim.Native.Nat.{ℕ, _+_, _*_, _≤_, _<_}

@@ -1,4 +1,4 @@
-// The room that each channel of a mode needs, and its tokens.
+// The size of each channel of a mode, and its tokens.
 use channel::End;
 use channel::size;
 use tables::Actor;

@@ -1,4 +1,4 @@
--- schedule::rooms::sizes_of meets its contract. The invariant: the sizes of the channels below k are set. Assumes nothing.
+-- schedule::sizes::sizes_of meets its contract. The invariant: the sizes of the channels below k are set. Assumes nothing.
 use Prim.Native.Nat.{ℕ, _≤_, _-_}
 use native.Mathlib.Omega.{arith}
 use Rattle.numbers.specs.Filled.{Filled, filled-none, filled-set}
@@ -9,8 +9,8 @@ use Rattle.tables.specs.Proper.{ProperChannel}
 use Rattle.schedule.specs.Reached.{startAt}
 use Rattle.schedule.specs.Scheduled.{SizeOn}
 use Rattle.schedule.proofs.Sizing.{sized-all}
-use Rattle.schedule.proofs.rooms.sizes_of.Statement.{statement}
-use Rattle.schedule.proofs.rooms.sizes_of.Tie as tie
+use Rattle.schedule.proofs.sizes.sizes_of.Statement.{statement}
+use Rattle.schedule.proofs.sizes.sizes_of.Tie as tie
 
 abbrev Inv-loop : tie.InvT-loop
 Inv-loop mode periods starts sizes₀ k₀ k-end sizes k = (k ≤ k-end) × Filled CHANNELS (SizeOn mode periods (startAt starts)) (token 0) (token 0) sizes k
