@@ -1,4 +1,5 @@
 // When each actor of a mode starts, and the size of each channel's buffer.
+mod ends;
 mod sizes;
 mod starts;
 
