@@ -69,8 +69,8 @@ ClaimedWith x p sp c sc = ClaimedBy (rateOf (ratesOf p)) (rateOf (ratesOf c)) (p
 module _ (p : End) (sp : Tick) (c : End) (sc : Tick) where
   pub fed-with : Fed p sp c sc ↔ FedWith 0 p sp c sc
   fed-with = (
-    (λ fed n pos e h. omega (arith, fed n pos (tokensOf (ratesOf p) (firing e)) (firing e, h, refl))),
-    (λ fed n pos v (e, h, made). omega (arith, fed n pos (e .0) h, ap (λ (t : Token). t .0) made)),
+    (λ fed n pos e h. omega (arith, fed n (omega (arith, pos)) (tokensOf (ratesOf p) (firing e)) (firing e, h, refl))),
+    (λ fed n pos v (e, h, made). omega (arith, fed n (omega (arith, pos)) (e .0) h, ap (λ (t : Token). t .0) made)),
   )
 
   pub claimed-with : (t : Tick) (v : Token) → Claimed p sp c sc t v ↔ ClaimedWith 0 p sp c sc (t .0) (v .0)
