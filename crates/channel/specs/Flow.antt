@@ -26,12 +26,16 @@ cycleTokens e = tokensOf (ratesOf e) (firing (e .phases))
 abbrev pub cycleTicks : End → Tick
 cycleTicks e = timesTicks (e .phases) (e .period)
 
--- No firing of the consumer c, which starts at sc, ever takes a token not yet there: what its firings up to firing n take is at most what the firings of
--- the producer p, which starts at sp, have made that have ended by the tick at which firing n begins. A firing that takes nothing waits for nothing.
+-- v tokens are made by tick t: v is what those firings of the producer p, which starts at sp, make that have ended by t
+abbrev pub Made : End → Tick → Tick → Token → Type 0
+Made p sp t v = (e : Firing) × HaveEnded sp (p .period) t e × (tokensOf (ratesOf p) e ≡ v)
+
+-- No firing of the consumer c, which starts at sc, ever takes a token not yet there: what its firings up to firing n take is at most what is made by the
+-- tick at which firing n begins. A firing that takes nothing waits for nothing.
 abbrev pub Fed : End → Tick → End → Tick → Type 0
 Fed p sp c sc =
-    (n : ℕ) → 0 < rateOf (ratesOf c) n → (e : Firing) → HaveEnded sp (p .period) (beginsAt sc (c .period) (firing n)) e
-    → tokensOf (ratesOf c) (next (firing n)) .0 ≤ tokensOf (ratesOf p) e .0
+    (n : ℕ) → 0 < rateOf (ratesOf c) n → (made : Token) → Made p sp (beginsAt sc (c .period) (firing n)) made
+    → tokensOf (ratesOf c) (next (firing n)) .0 ≤ made .0
 
 -- v places are claimed at tick t: room for output is claimed at the producer's beginning, room for input is given back at the end of the consumer's
 -- period, and at one tick giving back comes first

@@ -20,7 +20,7 @@ use Rattle.units.specs.Tokens.{token}
 use Rattle.units.specs.Limits.{MOST-RATE, ITERATION-LIMIT}
 use Rattle.units.specs.Firings.{firing}
 use Rattle.period.specs.Period.{beginsAt}
-use Rattle.rate.specs.Rate.{rateOf, rate-in, rate-cycle}
+use Rattle.rate.specs.Rate.{rateOf, tokensOf, rate-in, rate-cycle}
 use Rattle.channel.specs.declared.End.{End}
 use Rattle.channel.specs.Flow.{ratesOf, cycleTokens, cycleTicks, Fed, Claimed, IsSize, Proper, Paced}
 use Rattle.channel.specs.Cycles.{Matched, matched, factor-pos}
@@ -68,7 +68,10 @@ ClaimedWith x p sp c sc = ClaimedBy (rateOf (ratesOf p)) (rateOf (ratesOf c)) (p
 
 module _ (p : End) (sp : Tick) (c : End) (sc : Tick) where
   pub fed-with : Fed p sp c sc ↔ FedWith 0 p sp c sc
-  fed-with = ((λ fed n pos e h. omega (arith, fed n pos (firing e) h)), (λ fed n pos e h. omega (arith, fed n pos (e .0) h)))
+  fed-with = (
+    (λ fed n pos e h. omega (arith, fed n (omega (arith, pos)) (tokensOf (ratesOf p) (firing e)) (firing e, h, refl))),
+    (λ fed n pos v (e, h, made). omega (arith, fed n (omega (arith, pos)) (e .0) h, ap (λ (t : Token). t .0) made)),
+  )
 
   pub claimed-with : (t : Tick) (v : Token) → Claimed p sp c sc t v ↔ ClaimedWith 0 p sp c sc (t .0) (v .0)
   claimed-with t v = (
@@ -252,11 +255,16 @@ module _ (p c : End) (w : Paced p c) where
 -- a consumer that starts no earlier stays fed, by a producer that starts no later
 module _ (p : End) (c : End) (pos : 0 < p .period .0) where
   fed-wider : (sp sp′ sc sc′ : Tick) → sp .0 ≤ sp′ .0 → sc .0 ≤ sc′ .0 → Fed p sp′ c sc → Fed p sp c sc′
-  fed-wider sp sp′ sc sc′ hp hc fed n takes e ended =
+  fed-wider sp sp′ sc sc′ hp hc fed n takes v (e, ended, made) =
       let (e₀, ended₀) = ended-some sp′ (p .period) (beginsAt sc (c .period) (firing n)) pos in
       let more : e₀ .0 ≤ e .0 =
       at-most (λ (b : e .0 < e₀ .0). lt-irrefl (e .0) (ended (e .0) .1 (omega (arith, hp, hc, ended₀ (e .0) .0 b)))) in
-      le-trans (fed n takes e₀ ended₀) (sum-more (rateOf (ratesOf p)) (e₀ .0) (e .0) more)
+      omega (
+        arith,
+        fed n takes (tokensOf (ratesOf p) e₀) (e₀, ended₀, refl),
+        sum-more (rateOf (ratesOf p)) (e₀ .0) (e .0) more,
+        ap (λ (t : Token). t .0) made,
+      )
 
   pub fed-later : (sp sc sc′ : Tick) → sc .0 ≤ sc′ .0 → Fed p sp c sc → Fed p sp c sc′
   fed-later sp sc sc′ h = fed-wider sp sp sc sc′ (le-refl (sp .0)) h

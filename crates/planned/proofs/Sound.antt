@@ -156,7 +156,7 @@ module _ (t : Table) (w : Whole) (proper : ProperTable t) (planned : Planned t w
             let p = proper .mode (m - 1) (listed-is t proper m h .1 .0) .channel c l in (p .from, has-decides (modeOf t m .active) _ .1 (p .from-active));
         to-acts = λ m c h l. let p = proper .mode (m - 1) (listed-is t proper m h .1 .0) .channel c l in (p .to, has-decides (modeOf t m .active) _ .1 (p .to-active));
         balanced = λ m c h l k. runs m h .balanced c l k;
-        fed = λ m c h l n some e ended. runs m h .fed c l n some (firing e) ended;
+        fed = λ m c h l n some e ended. runs m h .fed c l n some _ (firing e, ended, refl);
         sized = λ m c h l x b e v begun ended claimed. runs m h .size c l .greatest v (tick x, (firing b, firing e, begun, ended, claimed));
         load = λ m q h. subst (λ (f : Fraction). AtMost f LOAD-LIMIT) (sym (asked m q h (λ i. true))) (alone m q h (processor-or-not q));
         change = λ o l q k ho hl other d s.

@@ -1,4 +1,4 @@
--- Model of starts.rt and rooms.rt: how the starts are found, depth by depth, and at each depth channel by channel.
+-- Model of starts.rt and sizes.rt: how the starts are found, depth by depth, and at each depth channel by channel.
 use mathlib.Core.Path.{_≡_}
 use mathlib.Core.List.{List}
 use Prim.Native.Nat.{ℕ, _+_, _*_, _≤_, _<_}
@@ -54,7 +54,7 @@ abbrev pub Later : List Tick → ℕ → Tick → ℕ → Type 0
 Later l active t i = ((i < ACTORS) × Has active i) × (t .0 < startAt l i .0)
 
 abbrev pub TimingIs : List Tick → ℕ → Tick → Timing → Type 0
-TimingIs l active t (IsLate a) = Least (Later l active t) a
+TimingIs l active t (IsLate a) = Later l active t a × ((i : ℕ) → Later l active t i → a ≤ i)
 TimingIs l active t OnTime = (i : ℕ) → Later l active t i → ⊥
 
 -- starts by which every channel is fed

@@ -1,5 +1,6 @@
-// When each actor of a mode starts, and how much room each channel needs.
-mod rooms;
+// When each actor of a mode starts, and the size of each channel's buffer.
+mod ends;
+mod sizes;
 mod starts;
 
 use graph::Judgement;
@@ -60,7 +61,7 @@ pub fn schedule(mode: Mode, judged: Judgement) -> Timetable
         timing: Timing::OnTime,
         startup,
         starts,
-        sizes: rooms::sizes_of(mode, periods, starts),
-        tokens: rooms::tokens_of(mode, firings),
+        sizes: sizes::sizes_of(mode, periods, starts),
+        tokens: sizes::tokens_of(mode, firings),
     }
 }

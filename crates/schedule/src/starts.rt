@@ -1,43 +1,17 @@
 // The starts of a mode's actors.
 use crate::Timing;
+use crate::ends::gives_of;
+use crate::ends::takes_of;
 use bits::has;
-use channel::End;
 use channel::least_start;
-use tables::Actor;
-use tables::Channel;
 use tables::Mode;
 use units::Tick;
 use units::limits::ACTORS;
 ghost use mathlib.Core.Path.{_≡_};
-ghost use Prim.Native.Nat.{_+_, _≤_};
+ghost use Prim.Native.Nat.{_+_};
 ghost use lib.ListN.{length};
-ghost use Rattle.numbers.specs.Extreme.{Least};
-ghost use Rattle.units.specs.Bounds.{MOST-START};
 ghost use Rattle.units.specs.Limits.{ACTORS};
-ghost use Rattle.units.specs.Ticks.{tick};
-ghost use Rattle.channel.specs.Flow.{Fed, Paced};
-ghost use Rattle.schedule.specs.Starts.{givesOf, takesOf};
 ghost use Rattle.schedule.specs.Reached.{Ready, Reached, TimingIs};
-
-// The least start that a channel asks of its consumer: the periods of its actors, and its producer's start, are given.
-fn asked(channel: Channel, maker: Actor, made: Tick, start: Tick, taker: Actor, taken: Tick) -> Tick
-    requires { ⌜ Paced (givesOf channel maker made) (takesOf channel taker taken) × (start .0 ≤ MOST-START .0) ⌝ }
-    ensures { λ r. ⌜ Least (λ n. Fed (givesOf channel maker made) start (takesOf channel taker taken) (tick n)) (r .0) ⌝ }
-{
-    let production = channel.production;
-    let consumption = channel.consumption;
-    let producer = End {
-        phases: maker.phases,
-        rates: production,
-        period: made,
-    };
-    let consumer = End {
-        phases: taker.phases,
-        rates: consumption,
-        period: taken,
-    };
-    least_start(producer, start, consumer)
-}
 
 // The actors at a depth start no earlier than each channel to them asks.
 fn at_depth(
@@ -56,14 +30,9 @@ fn at_depth(
         let from = channel.from;
         let to = channel.to;
         if depths[to] == depth {
-            let start = asked(
-                channel,
-                mode.actors[from],
-                periods[from],
-                starts[from],
-                mode.actors[to],
-                periods[to],
-            );
+            let producer = gives_of(channel, mode.actors[from], periods[from]);
+            let consumer = takes_of(channel, mode.actors[to], periods[to]);
+            let start = least_start(producer, starts[from], consumer);
             starts[to] = starts[to].greater(start);
         }
     }

@@ -29,8 +29,9 @@ starts c = reached-starts _ _ _ (ready (from c)) _ (c .starts-of .ensures)
 returns : tie.Need-returns
 returns c =
     let d = c .before .before .before .before in
+    let (holds, lowest) = subst (TimingIs _ _ _) (c .before .before .actor .given .1) (d .late .ensures) in
     subst (Scheduled _ _) (sym (c .refused .ensures))
-    (late (startAt (d .before .before .starts-of .result)) (starts (d .before .before)) (subst (TimingIs _ _ _) (c .before .before .actor .given .1) (d .late .ensures)))
+    (late (startAt (d .before .before .starts-of .result)) (starts (d .before .before)) (record { holds = holds; least = lowest }))
 
 returns-2 : tie.Need-returns-2
 returns-2 c =

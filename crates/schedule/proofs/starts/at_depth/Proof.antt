@@ -26,11 +26,12 @@ channel : (c : tie.After-channel Inv-loop μ-loop)
     → ProperChannel (c .before .before .before .args .t1) (channelAt (c .before .before .before .args .t1) (place c))
 channel c = c .before .before .before .pre .0 .proper .channel (place c) (c .before .loop-test .taken)
 
-asked-requires : tie.Need-asked-requires Inv-loop μ-loop
-asked-requires c κs =
-    let d = c .before .before .before .before .before .before in
+least-start-requires : tie.Need-least-start-requires Inv-loop μ-loop
+least-start-requires c κs =
+    let d = c .before .before .before .before .before .before .before .before in
     let ready = d .before .before .before .pre .0 in
     let from = channelAt (d .before .before .before .args .t1) (place d) .from in
+    rw (c .before .before .before .before .gives-of .ensures, c .before .takes-of .ensures)
     (ready .paced (place d) (d .before .loop-test .taken), omega (arith, d .before .before .loop .inv .1 .within from, mul-le-mul-right (MOST-WAIT .0) (ready .below from)))
 
 loop-again : tie.Need-loop-again Inv-loop μ-loop
@@ -40,8 +41,9 @@ loop-again c =
     let taken = c .before .before .loop-test .taken in (
       omega arith,
       ⊎-elim
-          (λ (at, a, b, d, e, f, asked, g, later, same).
-          rw (same, later .ensures) (reached-asked _ _ _ ready _ (l .k) (l .starts) taken (l .inv .1) (at .taken) (asked .result) (asked .ensures)))
+          (λ (at, a, b, gives, d, e, takes, f, start, g, later, same).
+          rw (same, later .ensures)
+          (reached-asked _ _ _ ready _ (l .k) (l .starts) taken (l .inv .1) (at .taken) (start .result) (rw (gives .ensures, takes .ensures) at (start .ensures))))
           (λ w. rw (w .1) (reached-aside _ _ _ ready _ (l .k) (l .starts) taken (l .inv .1) (w .0 .left)))
           (c .if1 .came),
     )
@@ -61,18 +63,20 @@ at-depth-spec =
     (λ c. channel (c .before) .from)
     (λ c. omega (arith, channel (c .before .before) .from))
     (λ c. channel (c .before .before) .from)
-    (λ c. omega (arith, channel (c .before .before .before) .from))
-    (λ c. channel (c .before .before .before) .from)
+    (λ c κs. search needs)
     (λ c. omega (arith, channel (c .before .before .before .before) .to))
     (λ c. channel (c .before .before .before .before) .to)
     (λ c. omega (arith, channel (c .before .before .before .before .before) .to))
     (λ c. channel (c .before .before .before .before .before) .to)
-    asked-requires
-    (λ c. omega (arith, channel (c .before .before .before .before .before .before .before) .to))
-    (λ c. channel (c .before .before .before .before .before .before .before) .to)
     (λ c κs. search needs)
+    (λ c. omega (arith, channel (c .before .before .before .before .before .before .before) .from))
+    (λ c. channel (c .before .before .before .before .before .before .before) .from)
+    least-start-requires
     (λ c. omega (arith, channel (c .before .before .before .before .before .before .before .before .before) .to))
     (λ c. channel (c .before .before .before .before .before .before .before .before .before) .to)
+    (λ c κs. search needs)
+    (λ c. omega (arith, channel (c .before .before .before .before .before .before .before .before .before .before .before) .to))
+    (λ c. channel (c .before .before .before .before .before .before .before .before .before .before .before) .to)
     (λ c. omega arith)
     (λ c. omega arith)
     loop-again

@@ -21,17 +21,13 @@ abbrev μ-loop : tie.MeasureT-loop
 -- whether the actor at hand starts by the sink's start
 returns : tie.Need-returns Inv-loop μ-loop
 returns c =
-    let l = c .before .before .before .before .before .before .loop in
-    record {
-      holds = (
+    let l = c .before .before .before .before .before .before .loop in (
+      (
         (c .before .before .before .before .before .loop-test .taken, decides-true (c .before .before .before .before .has .ensures) (c .before .before .before .if1 .taken)),
         lt-of-not-le (decides-false (c .before .at-most .ensures) (not-true (c .before .at-most .result) (c .if2 .taken))),
-      );
-      least = λ k w. lowest k (l .i) (l .inv .1) w;
-    }
-  where
-    lowest : (k i : ℕ) {P : ℕ → Type 0} → ((j : ℕ) → j < i → P j → ⊥) → P k → i ≤ k
-    lowest k i none p = let no : k < i → ⊥ = λ h. none k h p in omega (arith, no)
+      ),
+      λ k w. let early : k < l .i → ⊥ = λ h. l .inv .1 k h w in omega (arith, early),
+    )
 
 loop-again : tie.Need-loop-again Inv-loop μ-loop
 loop-again c =

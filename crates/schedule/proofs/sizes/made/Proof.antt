@@ -1,11 +1,11 @@
--- schedule::rooms::made meets its contract. Assumes nothing.
+-- schedule::sizes::made meets its contract. Assumes nothing.
 use borrow.Author.Needs.{needs}
 use mathlib.Core.Path.{_≡_, sym}
 use native.Mathlib.Omega.{arith}
 use lib.ListN.{length, take}
 use lib.Seq.{length-take-le}
-use Rattle.schedule.proofs.rooms.made.Statement.{statement}
-use Rattle.schedule.proofs.rooms.made.Tie as tie
+use Rattle.schedule.proofs.sizes.made.Statement.{statement}
+use Rattle.schedule.proofs.sizes.made.Tie as tie
 
 -- as many rates are lent as there are phases
 lent : (c : tie.After-rates) → c .before .args .phases ≡ length (take (c .before .args .phases) (c .before .args .t2))

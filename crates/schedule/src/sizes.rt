@@ -1,8 +1,7 @@
-// The room that each channel of a mode needs, and its tokens.
-use channel::End;
+// The size of each channel of a mode, and its tokens.
+use crate::ends::gives_of;
+use crate::ends::takes_of;
 use channel::size;
-use tables::Actor;
-use tables::Channel;
 use tables::Mode;
 use units::Firing;
 use units::Tick;
@@ -13,45 +12,16 @@ use units::limits::PHASES;
 ghost use mathlib.Core.Path.{_≡_};
 ghost use Prim.Native.Nat.{_*_, _≤_};
 ghost use lib.ListN.{length, take};
-ghost use Rattle.units.specs.Bounds.{MOST-CYCLES, MOST-START};
+ghost use Rattle.units.specs.Bounds.{MOST-CYCLES};
 ghost use Rattle.units.specs.Limits.{PHASES};
 ghost use Rattle.units.specs.Tokens.{token};
 ghost use Rattle.rate.specs.Rate.{tokensOf};
 ghost use Rattle.tables.specs.Proper.{ProperMode};
 ghost use Rattle.graph.specs.Lengths.{Few};
-ghost use Rattle.channel.specs.Flow.{Fed, IsSize, Paced};
-ghost use Rattle.schedule.specs.Starts.{givesOf, takesOf};
 ghost use Rattle.schedule.specs.Scheduled.{Sizes, ofChannels, tokensOn};
 ghost use Rattle.schedule.specs.Reached.{startAt, Fits};
 
-// The size of a channel's buffer: the periods and the starts of its actors are given.
-fn room(
-    channel: Channel,
-    maker: Actor,
-    made: Tick,
-    start: Tick,
-    taker: Actor,
-    taken: Tick,
-    next: Tick,
-) -> Token
-    requires { ⌜ Paced (givesOf channel maker made) (takesOf channel taker taken) × Fed (givesOf channel maker made) start (takesOf channel taker taken) next × (start .0 ≤ MOST-START .0) × (next .0 ≤ MOST-START .0) ⌝ }
-    ensures { λ r. ⌜ IsSize (givesOf channel maker made) start (takesOf channel taker taken) next r ⌝ }
-{
-    let production = channel.production;
-    let consumption = channel.consumption;
-    let producer = End {
-        phases: maker.phases,
-        rates: production,
-        period: made,
-    };
-    let consumer = End {
-        phases: taker.phases,
-        rates: consumption,
-        period: taken,
-    };
-    size(producer, start, consumer, next)
-}
-
+// The size of each channel's buffer.
 pub(crate) fn sizes_of(
     mode: Mode,
     periods: [Tick; ACTORS],
@@ -65,15 +35,9 @@ pub(crate) fn sizes_of(
         let channel = mode.channels[k];
         let from = channel.from;
         let to = channel.to;
-        sizes[k] = room(
-            channel,
-            mode.actors[from],
-            periods[from],
-            starts[from],
-            mode.actors[to],
-            periods[to],
-            starts[to],
-        );
+        let producer = gives_of(channel, mode.actors[from], periods[from]);
+        let consumer = takes_of(channel, mode.actors[to], periods[to]);
+        sizes[k] = size(producer, starts[from], consumer, starts[to]);
     }
     sizes
 }

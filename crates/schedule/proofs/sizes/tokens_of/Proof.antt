@@ -1,4 +1,4 @@
--- schedule::rooms::tokens_of meets its contract. The invariant: the tokens of the channels below k are set. Assumes nothing.
+-- schedule::sizes::tokens_of meets its contract. The invariant: the tokens of the channels below k are set. Assumes nothing.
 use Prim.Native.Nat.{ℕ, _≤_, _-_}
 use native.Mathlib.Omega.{arith}
 use Rattle.numbers.specs.Filled.{FilledBy, filled-none, filled-set}
@@ -8,8 +8,8 @@ use Rattle.tables.specs.Shape.{channelAt}
 use Rattle.tables.specs.Proper.{ProperChannel}
 use Rattle.schedule.specs.Scheduled.{tokensOn}
 use Rattle.schedule.proofs.Sizing.{of-channels}
-use Rattle.schedule.proofs.rooms.tokens_of.Statement.{statement}
-use Rattle.schedule.proofs.rooms.tokens_of.Tie as tie
+use Rattle.schedule.proofs.sizes.tokens_of.Statement.{statement}
+use Rattle.schedule.proofs.sizes.tokens_of.Tie as tie
 
 abbrev Inv-loop : tie.InvT-loop
 Inv-loop mode firings tokens₀ k₀ k-end tokens k = (k ≤ k-end) × FilledBy CHANNELS (tokensOn mode firings) (token 0) tokens k
