@@ -81,11 +81,11 @@ told-number {text} {r} (o, of, e) = go o of (ap (λ (x : Reading). readNumber (x
     go (rows-refused n k) of e = let (a, b) = of-row of in (omega (arith, a, e), omega (arith, b, e))
 
 mode-number : {m : Mode} {n : ℕ} {r : Refusal} → ModeRefused m n r → (1 ≤ r .number) × (r .number ≤ 10)
-mode-number (ModeRefused.by-6 j) = (omega arith, omega arith)
-mode-number (ModeRefused.by-7 j) = (omega arith, omega arith)
-mode-number (ModeRefused.by-8 j) = (omega arith, omega arith)
-mode-number (ModeRefused.by-9 j) = (omega arith, omega arith)
-mode-number (ModeRefused.by-10 j s l) = (omega arith, omega arith)
+mode-number (ModeRefused.by-6 c) = (omega arith, omega arith)
+mode-number (ModeRefused.by-7 c e) = (omega arith, omega arith)
+mode-number (ModeRefused.by-8 c e u) = (omega arith, omega arith)
+mode-number (ModeRefused.by-9 b o) = (omega arith, omega arith)
+mode-number (ModeRefused.by-10 b o s l) = (omega arith, omega arith)
 
 -- the refusal of a table's modes is that of one mode
 abbrev wholeRefusal : WholeAnswer → Refusal → Refusal

@@ -1,12 +1,15 @@
 -- The plan of a table: what is planned of each mode and of each change, or the refusal of the lowest mode that is refused.
 use mathlib.Core.Path.{_≡_}
-use mathlib.Core.List.{[]}
-use Prim.Native.Nat.{ℕ, _+_, _*_, _<_}
+use mathlib.Core.List.{List, []}
+use Prim.Native.Nat.{ℕ, _+_, _*_, _≤_, _<_}
 use lib.ListN.{length, getD, replicate}
+use Rattle.numbers.specs.Extreme.{Least}
+use Rattle.units.specs.declared.Tick.{Tick}
 use Rattle.units.specs.Ticks.{tick}
 use Rattle.units.specs.Tokens.{token}
-use Rattle.units.specs.Limits.{MODES, ACTORS, CHANNELS}
+use Rattle.units.specs.Limits.{MODES, ACTORS, CHANNELS, ITERATION-LIMIT}
 use Rattle.units.specs.Firings.{firing}
+use Rattle.period.specs.Period.{periodOf}
 use Rattle.terms.specs.Refusal.{CYCLE, NO-ENDS, NO-BALANCE, OVERLOAD, LATE}
 use Rattle.terms.specs.declared.refusal.Place.{Place}
 use Rattle.terms.specs.declared.refusal.Place.the-variants.{Mode as AtMode, Actor as AtActor, Processor as AtProcessor}
@@ -15,12 +18,17 @@ use Rattle.terms.specs.Place.{numberOf}
 use Rattle.tables.specs.declared.Mode.{Mode}
 use Rattle.tables.specs.declared.Table.{Table}
 use Rattle.tables.specs.Shape.{modeAt, Active}
-use Rattle.graph.specs.declared.Verdict.the-variants.{Cyclic, Ends, Unbalanced, Overloaded, Sound}
+use Rattle.graph.specs.declared.Verdict.the-variants.{Sound}
 use Rattle.graph.specs.declared.Judgement.{Judgement}
-use Rattle.graph.specs.Judged.{Judged, refusedBy}
+use Rattle.graph.specs.Order.{Cyclic}
+use Rattle.graph.specs.Ends.{Ends, NoEnds}
+use Rattle.graph.specs.Balance.{Smallest, Iteration, Unbalanced, firingsOf}
+use Rattle.graph.specs.Load.{Overloaded}
+use Rattle.graph.specs.Judged.{Judged, ofActors}
 use Rattle.schedule.specs.declared.Timing.the-variants.{OnTime}
 use Rattle.schedule.specs.declared.Timetable.{Timetable}
-use Rattle.schedule.specs.Scheduled.{Scheduled, lateBy}
+use Rattle.schedule.specs.Starts.{Starts, Late}
+use Rattle.schedule.specs.Scheduled.{Scheduled}
 use Rattle.change.specs.declared.Running.{Running}
 use Rattle.change.specs.declared.Timing.{Timing}
 use Rattle.change.specs.Work.{preparedOf}
@@ -80,14 +88,28 @@ Listed t k = (k < MODES) × ((i : ℕ) × Active (modeAt t k) i)
 abbrev pub refusal : ℕ → Place → Refusal
 refusal n p = record { number = n; place = p }
 
--- The mode with number n is refused: by the first of 6 to 10 that applies, with the place that it names.
+-- the periods of a mode's actors, by their cycle counts and the iteration; 0 for an actor that is not active
+abbrev pub periodsOf : Mode → (ℕ → ℕ) → Tick → List Tick
+periodsOf m x h = ofActors m (λ i. periodOf h (firingsOf m x i)) (tick 0)
+
+-- None of 6 to 8 applies to a mode: s is its source, t its sink, x are its smallest cycle counts and h is its iteration, within the limit.
+pub record Balanced (m : Mode) (s t : ℕ) (x : ℕ → ℕ) (h : Tick) : Type 0 where
+  pub acyclic : Cyclic m → ⊥
+  pub ends : Ends m s t
+  pub smallest : Smallest m x
+  pub iteration : Iteration m x h
+  pub within : h .0 ≤ ITERATION-LIMIT .0
+
+-- The mode with number n is refused: by the first of 6 to 10 that applies, with the place that it names. 9 names the lowest processor above the load limit, and 10,
+-- with b the least starts of the mode's actors, the lowest actor that starts later than the sink.
 pub data ModeRefused (m : Mode) (n : ℕ) : Refusal → Type 0 where
-  by-6 : Judged m (refusedBy Cyclic) → ModeRefused m n (refusal CYCLE (AtMode n))
-  by-7 : Judged m (refusedBy Ends) → ModeRefused m n (refusal NO-ENDS (AtMode n))
-  by-8 : Judged m (refusedBy Unbalanced) → ModeRefused m n (refusal NO-BALANCE (AtMode n))
-  by-9 : {p : ℕ} → Judged m (refusedBy (Overloaded p)) → ModeRefused m n (refusal OVERLOAD (AtProcessor n (numberOf p)))
-  by-10 : {a : ℕ} {j : Judgement} → Judged m j → j .verdict ≡ Sound → Scheduled m j (lateBy a)
-      → ModeRefused m n (refusal LATE (AtActor n (numberOf a)))
+  by-6 : Cyclic m → ModeRefused m n (refusal CYCLE (AtMode n))
+  by-7 : (Cyclic m → ⊥) → NoEnds m → ModeRefused m n (refusal NO-ENDS (AtMode n))
+  by-8 : {s t : ℕ} → (Cyclic m → ⊥) → Ends m s t → Unbalanced m → ModeRefused m n (refusal NO-BALANCE (AtMode n))
+  by-9 : {s t p : ℕ} {x : ℕ → ℕ} {h : Tick} → Balanced m s t x h → Least (Overloaded m x h) p
+      → ModeRefused m n (refusal OVERLOAD (AtProcessor n (numberOf p)))
+  by-10 : {s t a : ℕ} {x : ℕ → ℕ} {h : Tick} {b : ℕ → Tick} → Balanced m s t x h → ((p : ℕ) → Overloaded m x h p → ⊥) → Starts m (periodsOf m x h) b
+      → Least (Late m b t) a → ModeRefused m n (refusal LATE (AtActor n (numberOf a)))
 
 -- the numbers of a mode that is judged and scheduled
 abbrev pub partOf : Judgement → Timetable → Part
