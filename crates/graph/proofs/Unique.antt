@@ -28,7 +28,8 @@ use Rattle.graph.specs.Ends.{Only}
 use Rattle.graph.specs.Balance.{Smallest, Iteration, firingsOf, workIn}
 use Rattle.graph.specs.Load.{Overloaded, isOn, askedBy, loadOf, shareOf}
 use Rattle.graph.specs.Laws.{iteration-one, iteration-same}
-use Rattle.graph.specs.Judged.{refusedBy, ofActors, Numbers, Judged, cyclic, no-ends, unbalanced, overloaded, sound}
+use Rattle.graph.specs.Nothing.{refusedBy}
+use Rattle.graph.specs.Judged.{ofActors, Numbers, Judged, cyclic, no-ends, unbalanced, overloaded, sound}
 
 -- one number at most is the only one
 pub only-unique : (P : ℕ → Type 0) {i j : ℕ} → Only P i → Only P j → i ≡ j
