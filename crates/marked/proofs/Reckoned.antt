@@ -36,7 +36,8 @@ use Rattle.whole.specs.declared.Part.{Part}
 use Rattle.whole.specs.declared.Whole.{Whole}
 use Rattle.whole.specs.declared.Answer.{Answer}
 use Rattle.whole.specs.declared.Answer.the-variants.{Planned as IsPlanned, Refused as IsRefused}
-use Rattle.whole.specs.Whole.{noPart, noTiming, emptyPart, emptyWhole, refusal, partOf, IsPart, Planned, Planning, refused}
+use Rattle.whole.specs.Nothing.{noPart, noTiming, emptyPart, emptyWhole}
+use Rattle.whole.specs.Whole.{refusal, partOf, IsPart, Planned, Planning, refused}
 use Rattle.whole.specs.Steps.{Comes, AnyComes, runningAt, runningsOf, AllReady, Between, ChangeOf, FoundParts, FoundChanges}
 use Rattle.whole.proofs.Told.{judged-refuses, scheduled-refuses}
 use Rattle.whole.proofs.Running.{all-ready, listed-some}

@@ -32,7 +32,8 @@ use Rattle.change.specs.Waits.{overlapOf, offsetFrom}
 use Rattle.change.proofs.Offsets.{found}
 use Rattle.whole.specs.declared.Part.{Part}
 use Rattle.whole.specs.declared.Outcome.{Outcome}
-use Rattle.whole.specs.Whole.{noPart, noTiming, emptyPart, Listed, ModeRefused, partOf, ModePlanned, IsPart, Planning, refused, planned}
+use Rattle.whole.specs.Nothing.{noPart, noTiming, emptyPart}
+use Rattle.whole.specs.Whole.{Listed, ModeRefused, partOf, ModePlanned, IsPart, Planning, refused, planned}
 use Rattle.whole.specs.Steps.{runningAt, runningsOf, AllReady, Between, ChangeOf, FoundParts, FoundChanges}
 use Rattle.whole.proofs.Told.{judged-refuses, scheduled-refuses}
 use Rattle.whole.proofs.Unique.{listed-or-not}

@@ -34,7 +34,8 @@ use Rattle.whole.specs.declared.Part.{Part}
 use Rattle.whole.specs.declared.Whole.{Whole}
 use Rattle.whole.specs.declared.Answer.the-variants.{Refused as IsRefused, Planned as IsPlanned}
 use Rattle.whole.specs.declared.Outcome.{Outcome}
-use Rattle.whole.specs.Whole.{noPart, noTiming, emptyWhole, changeAt, Listed, refusal, periodsOf, Balanced, ModeRefused, by-6, by-7, by-8, by-9, by-10, partOf, ModePlanned, IsPart, runningOf, Leads, IsChange, Planned, Planning, refused, planned}
+use Rattle.whole.specs.Nothing.{noPart, noTiming, emptyWhole}
+use Rattle.whole.specs.Whole.{changeAt, Listed, refusal, periodsOf, Balanced, ModeRefused, by-6, by-7, by-8, by-9, by-10, partOf, ModePlanned, IsPart, runningOf, Leads, IsChange, Planned, Planning, refused, planned}
 use Rattle.whole.proofs.Told.{judged-sound, scheduled-times, numbers-balanced}
 
 module _ {m : Mode} where

@@ -1,3 +1,4 @@
 -- The plan of a table.
+pub mod Nothing
 pub mod Whole
 pub mod Steps

@@ -1,14 +1,12 @@
 -- The plan of a table: what is planned of each mode and of each change, or the refusal of the lowest mode that is refused.
 use mathlib.Core.Path.{_≡_}
-use mathlib.Core.List.{List, []}
+use mathlib.Core.List.{List}
 use Prim.Native.Nat.{ℕ, _+_, _*_, _≤_, _<_}
-use lib.ListN.{length, getD, replicate}
+use lib.ListN.{length, getD}
 use Rattle.numbers.specs.Extreme.{Least}
 use Rattle.units.specs.declared.Tick.{Tick}
 use Rattle.units.specs.Ticks.{tick}
-use Rattle.units.specs.Tokens.{token}
-use Rattle.units.specs.Limits.{MODES, ACTORS, CHANNELS, ITERATION-LIMIT}
-use Rattle.units.specs.Firings.{firing}
+use Rattle.units.specs.Limits.{MODES, ITERATION-LIMIT}
 use Rattle.period.specs.Period.{periodOf}
 use Rattle.terms.specs.Refusal.{CYCLE, NO-ENDS, NO-BALANCE, OVERLOAD, LATE}
 use Rattle.terms.specs.declared.refusal.Place.{Place}
@@ -37,42 +35,7 @@ use Rattle.whole.specs.declared.Part.{Part}
 use Rattle.whole.specs.declared.Whole.{Whole}
 use Rattle.whole.specs.declared.Answer.the-variants.{Planned as IsPlanned, Refused as IsRefused}
 use Rattle.whole.specs.declared.Outcome.{Outcome}
-
--- what stands past the end of an array
-abbrev pub noPart : Part
-noPart =
-    record {
-      source = 0;
-      sink = 0;
-      iteration = tick 0;
-      startup = tick 0;
-      firings = [];
-      periods = [];
-      starts = [];
-      sizes = [];
-      tokens = [];
-    }
-
--- no change, and nothing planned: of a mode, and of a table
-abbrev pub noTiming : Timing
-noTiming = record { overlap = tick 0; offset = tick 0; worst = tick 0 }
-
-abbrev pub emptyPart : Part
-emptyPart =
-    record {
-      source = 0;
-      sink = 0;
-      iteration = tick 0;
-      startup = tick 0;
-      firings = replicate ACTORS (firing 0);
-      periods = replicate ACTORS (tick 0);
-      starts = replicate ACTORS (tick 0);
-      sizes = replicate CHANNELS (token 0);
-      tokens = replicate CHANNELS (token 0);
-    }
-
-abbrev pub emptyWhole : Whole
-emptyWhole = record { parts = replicate MODES emptyPart; changes = replicate (MODES * MODES) noTiming }
+use Rattle.whole.specs.Nothing.{noPart, emptyPart, noTiming, emptyWhole}
 
 -- what is planned of mode k, and of the change from mode k to mode l
 abbrev pub partAt : Whole → ℕ → Part
