@@ -20,7 +20,9 @@ use Rattle.reader.specs.declared.Answer.{Answer as ReadAnswer}
 use Rattle.reader.specs.declared.Answer.the-variants.{Read, Refused as NotRead}
 use Rattle.reader.specs.declared.Reading.{Reading}
 use Rattle.reader.specs.Rows.{Row, by-3, by-4, by-5}
+use Rattle.reader.specs.Numbers.{readNumbers}
 use Rattle.reader.specs.Told.{Outcome as Rows, rows, refused as rows-refused, FrontRefused, After, Of, readingOf, Told}
+use Rattle.reader.proofs.Again.{reads-proper}
 use Rattle.graph.specs.Balance.{firingsOf}
 use Rattle.schedule.proofs.Sound.{at-actor}
 use Rattle.whole.specs.declared.Part.{Part}
@@ -28,8 +30,10 @@ use Rattle.whole.specs.declared.Whole.{Whole}
 use Rattle.whole.specs.declared.Outcome.{Outcome}
 use Rattle.whole.specs.declared.Answer.{Answer as WholeAnswer}
 use Rattle.whole.specs.declared.Answer.the-variants.{Planned as IsPlanned, Refused as NotPlanned}
+use Rattle.whole.specs.Numbers.{modesNumbers}
 use Rattle.whole.specs.Whole.{ModeRefused, ModePlanned, Planned, Planning}
 use Rattle.whole.proofs.Told.{judged-sound, scheduled-times}
+use Rattle.whole.proofs.Exists.{planning-exists}
 use Rattle.run.specs.Plan.{Plan}
 use Rattle.run.specs.Machine as Run
 use Rattle.planned.specs.Plan.{isListed, planOf}
@@ -37,7 +41,8 @@ use Rattle.layout.specs.Words.{WORDS, wordsOf}
 use Rattle.planner.specs.declared.Answer.{Answer as TableAnswer}
 use Rattle.planner.specs.declared.Answer.the-variants as Table′
 use Rattle.planner.specs.Plans.{Plans, Reads}
-use Rattle.planner.proofs.Answering.{plans-unique}
+use Rattle.planner.specs.Numbers.{planNumbers}
+use Rattle.planner.proofs.Answering.{told-refused, plans-unique}
 use Rattle.machine.specs.declared.Machine.{Machine}
 use Rattle.machine.specs.declared.Beginning.{Beginning}
 use Rattle.machine.specs.declared.Answer.{Answer}
@@ -81,11 +86,11 @@ told-number {text} {r} (o, of, e) = go o of (ap (λ (x : Reading). readNumber (x
     go (rows-refused n k) of e = let (a, b) = of-row of in (omega (arith, a, e), omega (arith, b, e))
 
 mode-number : {m : Mode} {n : ℕ} {r : Refusal} → ModeRefused m n r → (1 ≤ r .number) × (r .number ≤ 10)
-mode-number (ModeRefused.by-6 j) = (omega arith, omega arith)
-mode-number (ModeRefused.by-7 j) = (omega arith, omega arith)
-mode-number (ModeRefused.by-8 j) = (omega arith, omega arith)
-mode-number (ModeRefused.by-9 j) = (omega arith, omega arith)
-mode-number (ModeRefused.by-10 j s l) = (omega arith, omega arith)
+mode-number (ModeRefused.by-6 c) = (omega arith, omega arith)
+mode-number (ModeRefused.by-7 c e) = (omega arith, omega arith)
+mode-number (ModeRefused.by-8 c e u) = (omega arith, omega arith)
+mode-number (ModeRefused.by-9 b o) = (omega arith, omega arith)
+mode-number (ModeRefused.by-10 b o s l) = (omega arith, omega arith)
 
 -- the refusal of a table's modes is that of one mode
 abbrev wholeRefusal : WholeAnswer → Refusal → Refusal
@@ -198,6 +203,27 @@ only-then {text} l (Plans.not-read {r = s} k told) e = subst (TableRefused text)
 only-then {text} l (Plans.not-planned {r = s} k reads p) e = subst (TableRefused text) (ap (refusalOr s) e) (mode-refused reads p refl .0)
 only-then l (Plans.accepted k r p) e = let z : _≡_ {A = ℕ} 0 1 = cc in absurd (omega arith)
 
+answered : {text : List ℕ} {t : Table} → Reads text t → ((w : Whole) × Planned t w) ⊎ ((r : Refusal) × TableRefused text r)
+answered {text} {t} reads = go (planning-exists t (reads-proper text t reads) .1)
+  where
+    go : {x : Outcome} → Planning t x → ((w : Whole) × Planned t w) ⊎ ((r : Refusal) × TableRefused text r)
+    go (Planning.refused listed lower refused) = inr (_, TableRefused.at-mode reads listed lower refused)
+    go (Planning.planned p) = inl (_, p)
+
+text-numbers : {text before after : List ℕ} {x : Reading} {a : TableAnswer} → length before ≡ WORDS → Told text x → (x .answer ≡ Read → ⊥) → Plans text before a after
+    → planNumbers a ≡ readNumbers (x .answer)
+text-numbers {text} {before} {x = x} {a} l told n plans = go (x .answer) refl
+  where
+    go : (y : ReadAnswer) → x .answer ≡ y → planNumbers a ≡ readNumbers (x .answer)
+    go Read e = absurd (n e)
+    go (NotRead r) e = ap planNumbers (plans-unique plans (Plans.not-read l (told-refused told e)) .0) ∙ ap readNumbers (sym e)
+
+modes-numbers : {text before after : List ℕ} {t : Table} {x : Outcome} {a : TableAnswer} → length before ≡ WORDS → Reads text t → Planning t x → Plans text before a after
+    → planNumbers a ≡ modesNumbers (x .answer)
+modes-numbers l reads (Planning.refused listed lower refused) plans =
+    ap planNumbers (plans-unique plans (Plans.not-planned l reads (Planning.refused listed lower refused)) .0)
+modes-numbers l reads (Planning.planned p) plans = ap planNumbers (plans-unique plans (Plans.accepted l reads p) .0)
+
 pub demand-2 : Demand2
 demand-2 =
     record {
@@ -206,6 +232,9 @@ demand-2 =
       refused = refuses;
       only-then = λ l p. only-then l p refl;
       no-room = Plans.wrong-length;
+      answered = answered;
+      text-numbers = text-numbers;
+      modes-numbers = modes-numbers;
       start-15 = λ n b. begins-unique b (Begins.not-stored n);
       start-11 = λ l m n b. begins-unique b (Begins.not-listed l m n);
       start-begun = λ l m h b. begins-unique b (Begins.begun l m h);

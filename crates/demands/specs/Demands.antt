@@ -17,7 +17,9 @@ use Rattle.terms.specs.declared.refusal.Refusal.{Refusal}
 use Rattle.tables.specs.declared.Mode.{Mode}
 use Rattle.tables.specs.declared.Table.{Table}
 use Rattle.tables.specs.Shape.{Active, modeAt, emptyTable}
-use Rattle.reader.specs.declared.Answer.the-variants.{Refused as NotRead}
+use Rattle.reader.specs.declared.Answer.the-variants.{Read as IsRead, Refused as NotRead}
+use Rattle.reader.specs.declared.Reading.{Reading}
+use Rattle.reader.specs.Numbers.{readNumbers}
 use Rattle.reader.specs.Told.{Told}
 use Rattle.graph.specs.Ends.{Ends}
 use Rattle.graph.specs.Balance.{Smallest, Iteration, firingsOf}
@@ -27,7 +29,9 @@ use Rattle.schedule.specs.Scheduled.{SizeOn, ofChannels, tokensOn}
 use Rattle.change.specs.Change.{Changes}
 use Rattle.whole.specs.declared.Part.{Part}
 use Rattle.whole.specs.declared.Whole.{Whole}
-use Rattle.whole.specs.Whole.{partAt, changeAt, timesOf, Listed, Leads, ModePlanned, ModeRefused, Planned}
+use Rattle.whole.specs.declared.Outcome.{Outcome}
+use Rattle.whole.specs.Numbers.{modesNumbers}
+use Rattle.whole.specs.Whole.{partAt, changeAt, timesOf, Listed, Leads, ModePlanned, ModeRefused, Planned, Planning}
 use Rattle.run.specs.Machine as Run
 use Rattle.run.specs.Demand as Run′
 use Rattle.planned.specs.Plan.{isListed, planOf}
@@ -35,6 +39,7 @@ use Rattle.layout.specs.Words.{WORDS, wordsOf}
 use Rattle.planner.specs.declared.Answer as planner
 use Rattle.planner.specs.declared.Answer.the-variants as Table′
 use Rattle.planner.specs.Plans.{Plans, Reads, Leaves, Stored, noPlan}
+use Rattle.planner.specs.Numbers.{planNumbers}
 use Rattle.machine.specs.declared.Machine.{Machine}
 use Rattle.machine.specs.declared.Beginning.{Beginning}
 use Rattle.machine.specs.declared.Beginning.the-variants as Start′
@@ -113,6 +118,13 @@ pub record Demand2 : Type 0 where
   pub refused : {text before : List ℕ} {r : Refusal} → length before ≡ WORDS → TableRefused text r → Plans text before (Table′.Refused r) before
   pub only-then : {text before after : List ℕ} {r : Refusal} → length before ≡ WORDS → Plans text before (Table′.Refused r) after → TableRefused text r
   pub no-room : {text before : List ℕ} → (length before ≡ WORDS → ⊥) → Plans text before (Table′.Refused noPlan) before
+  -- the rules leave no table that is read without an answer: it has a plan, or it is refused
+  pub answered : {text : List ℕ} {t : Table} → Reads text t → ((w : Whole) × Planned t w) ⊎ ((r : Refusal) × TableRefused text r)
+  -- the five numbers of an answer are those of what is answered to its text, where that is refused, and else those of what is answered to its modes
+  pub text-numbers : {text before after : List ℕ} {x : Reading} {a : planner.Answer} → length before ≡ WORDS → Told text x → (x .answer ≡ IsRead → ⊥) → Plans text before a after
+      → planNumbers a ≡ readNumbers (x .answer)
+  pub modes-numbers : {text before after : List ℕ} {t : Table} {x : Outcome} {a : planner.Answer} → length before ≡ WORDS → Reads text t → Planning t x
+      → Plans text before a after → planNumbers a ≡ modesNumbers (x .answer)
   -- a start is refused by 15 where no accepted table leaves the words, then by 11 where the mode that is meant is not in the plan; else a machine begins in it
   pub start-15 : {words : List ℕ} {mode : ℕ} {b : Beginning} → (Stored words → ⊥) → Begins words mode b → b ≡ Start′.Refused (refusalOf 15)
   pub start-11 : {t : Table} {w : Whole} {words : List ℕ} {mode k : ℕ} {b : Beginning} → Leaves t w words → Meant t mode k → (T (isListed t k) → ⊥) → Begins words mode b

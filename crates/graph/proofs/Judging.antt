@@ -18,7 +18,8 @@ use Rattle.graph.specs.declared.Verdict.the-variants.{Unbalanced as IsUn
 use Rattle.graph.specs.Order.{Cyclic, Ranked}
 use Rattle.graph.specs.Ends.{Ends}
 use Rattle.graph.specs.Balance.{Iteration}
-use Rattle.graph.specs.Judged.{refusedBy, Judged, cyclic, no-ends, unbalanced, overloaded, sound}
+use Rattle.graph.specs.Nothing.{refusedBy}
+use Rattle.graph.specs.Judged.{Judged, cyclic, no-ends, unbalanced, overloaded, sound}
 use Rattle.graph.specs.Rounds.{lowestOf}
 use Rattle.graph.specs.Counts.{Counted, countsOf, balancesb}
 use Rattle.graph.specs.Lengths.{firingsIn, worksIn, lengthOf, sharesIn, overloadedOf}

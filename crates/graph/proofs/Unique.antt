@@ -29,7 +29,8 @@ use Rattle.graph.specs.Ends.{Only}
 use Rattle.graph.specs.Balance.{Smallest, Iteration, firingsOf}
 use Rattle.graph.specs.Load.{Overloaded, isOn, askedBy, loadOf}
 use Rattle.graph.specs.Laws.{iteration-one, iteration-same}
-use Rattle.graph.specs.Judged.{refusedBy, ofActors, Numbers, Judged, cyclic, no-ends, unbalanced, overloaded, sound}
+use Rattle.graph.specs.Nothing.{refusedBy}
+use Rattle.graph.specs.Judged.{ofActors, Numbers, Judged, cyclic, no-ends, unbalanced, overloaded, sound}
 
 -- one number at most is the only one
 pub only-unique : (P : ℕ → Type 0) {i j : ℕ} → Only P i → Only P j → i ≡ j
@@ -61,15 +62,15 @@ module _ (m : Mode) where
     over-same : (h : Tick) (p : ℕ) → Overloaded m x h p → Overloaded m y h p
     over-same h p o = record { processor = o .processor; above = subst (λ f. AtMost f LOAD-LIMIT → ⊥) (load-same h (numberOf p)) (o .above) }
 
-  smallest-same : (x y : ℕ → ℕ) → Smallest m x → Smallest m y → (i : ℕ) → Active m i → x i ≡ y i
+  pub smallest-same : (x y : ℕ → ℕ) → Smallest m x → Smallest m y → (i : ℕ) → Active m i → x i ≡ y i
   smallest-same x y p q i a = le-antisymm (p .least y (q .balances) i a) (q .least x (p .balances) i a)
 
   -- the iteration of the smallest counts
-  lengths-same : (x y : ℕ → ℕ) {h g : Tick} → Smallest m x → Smallest m y → Iteration m x h → Iteration m y g → h ≡ g
+  pub lengths-same : (x y : ℕ → ℕ) {h g : Tick} → Smallest m x → Smallest m y → Iteration m x h → Iteration m y g → h ≡ g
   lengths-same x y p q i j = iteration-one m y (iteration-same m x y (smallest-same x y p q) i) j
 
   -- what overloads a processor in one reckoning does in the other
-  over-again : (x y : ℕ → ℕ) {h g : Tick} → Smallest m x → Smallest m y → Iteration m x h → Iteration m y g → (p : ℕ) → Overloaded m x h p → Overloaded m y g p
+  pub over-again : (x y : ℕ → ℕ) {h g : Tick} → Smallest m x → Smallest m y → Iteration m x h → Iteration m y g → (p : ℕ) → Overloaded m x h p → Overloaded m y g p
   over-again x y {h} {g} p q i j n o = subst (λ t. Overloaded m y t n) (lengths-same x y p q i j) (over-same x y (smallest-same x y p q) h n o)
 
   depths-same : (a b : List ℕ) → Ranked m a → Ranked m b → a ≡ b

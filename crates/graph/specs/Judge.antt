@@ -14,7 +14,7 @@ use Rattle.graph.specs.declared.Verdict.the-variants.{Cyclic, Ends, Unba
 use Rattle.graph.specs.declared.Judgement.{Judgement}
 use Rattle.graph.specs.declared.order.Order.{Order}
 use Rattle.graph.specs.declared.balance.Counts.{Counts}
-use Rattle.graph.specs.Judged.{refusedBy}
+use Rattle.graph.specs.Nothing.{refusedBy}
 use Rattle.graph.specs.Rounds.{predsOf, orderOf, firstsOf, lastsOf, lowestOf}
 use Rattle.graph.specs.Counts.{countsOf, balancesb}
 use Rattle.graph.specs.Lengths.{firingsIn, worksIn, lengthOf, periodsIn, sharesIn, overloadedOf}

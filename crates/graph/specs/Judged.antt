@@ -3,7 +3,6 @@ use mathlib.Core.Path.{_≡_}
 use mathlib.Core.Bool.{cond}
 use mathlib.Core.List.{List}
 use Prim.Native.Nat.{ℕ, _≤_}
-use lib.ListN.{replicate}
 use Rattle.numbers.specs.Bits.{hasb}
 use Rattle.numbers.specs.Extreme.{Least}
 use Rattle.numbers.specs.Tab.{tab}
@@ -13,26 +12,13 @@ use Rattle.units.specs.Limits.{ACTORS, ITERATION-LIMIT}
 use Rattle.units.specs.Firings.{firing}
 use Rattle.period.specs.Period.{periodOf}
 use Rattle.tables.specs.declared.Mode.{Mode}
-use Rattle.graph.specs.declared.Verdict.{Verdict}
 use Rattle.graph.specs.declared.Verdict.the-variants.{Cyclic as IsCyclic, Ends as HasNoEnds, Unbalanced as IsUnbalanced, Overloaded as IsOverloaded, Sound as IsSound}
 use Rattle.graph.specs.declared.Judgement.{Judgement}
+use Rattle.graph.specs.Nothing.{refusedBy}
 use Rattle.graph.specs.Order.{Cyclic, Ranked}
 use Rattle.graph.specs.Ends.{Ends, NoEnds}
 use Rattle.graph.specs.Balance.{Smallest, Iteration, Unbalanced, firingsOf}
 use Rattle.graph.specs.Load.{Overloaded}
-
--- a refused mode comes with no numbers
-abbrev pub refusedBy : Verdict → Judgement
-refusedBy v =
-    record {
-      verdict = v;
-      source = 0;
-      sink = 0;
-      iteration = tick 0;
-      depths = replicate ACTORS 0;
-      firings = replicate ACTORS (firing 0);
-      periods = replicate ACTORS (tick 0);
-    }
 
 -- for each place what f gives to an active actor, and z where there is none
 abbrev pub ofActors : {A : Type 0} → Mode → (ℕ → A) → A → List A

@@ -1,4 +1,5 @@
 -- The rules of a mode's graph, and then the models of the code that finds it.
+pub mod Nothing
 pub mod Order
 pub mod Ends
 pub mod Balance

@@ -18,7 +18,8 @@ use Rattle.tables.specs.Shape.{actorAt, channelAt, modeAt}
 use Rattle.change.specs.declared.Timing.{Timing}
 use Rattle.whole.specs.declared.Part.{Part}
 use Rattle.whole.specs.declared.Whole.{Whole}
-use Rattle.whole.specs.Whole.{noTiming, partAt}
+use Rattle.whole.specs.Nothing.{noTiming}
+use Rattle.whole.specs.Whole.{partAt}
 use Rattle.layout.specs.Joined.{joined}
 
 -- the number of ordered pairs of modes

@@ -1,3 +1,4 @@
 -- What the machine answers.
 pub mod Answers
+pub mod Numbers
 pub mod Steps

@@ -36,9 +36,10 @@ use Rattle.whole.specs.declared.Part.{Part}
 use Rattle.whole.specs.declared.Whole.{Whole}
 use Rattle.whole.specs.declared.Answer.{Answer}
 use Rattle.whole.specs.declared.Answer.the-variants.{Planned as IsPlanned, Refused as IsRefused}
-use Rattle.whole.specs.Whole.{noPart, noTiming, emptyPart, emptyWhole, refusal, by-6, by-7, by-8, by-9, by-10, partOf, IsPart, Planned, Planning, refused}
+use Rattle.whole.specs.Nothing.{noPart, noTiming, emptyPart, emptyWhole}
+use Rattle.whole.specs.Whole.{refusal, partOf, IsPart, Planned, Planning, refused}
 use Rattle.whole.specs.Steps.{Comes, AnyComes, runningAt, runningsOf, AllReady, Between, ChangeOf, FoundParts, FoundChanges}
-use Rattle.whole.proofs.Told.{judged-refused, scheduled-late}
+use Rattle.whole.proofs.Told.{judged-refuses, scheduled-refuses}
 use Rattle.whole.proofs.Running.{all-ready, listed-some}
 use Rattle.whole.proofs.Coming.{any-comes, part-comes, plan-comes}
 
@@ -70,11 +71,11 @@ module _ (m : Mode) (n : ℕ) (proper : ProperMode m) where
     where
       go : (v : Verdict) (a : Lateness) → judgeOf m .verdict ≡ v → scheduleOf m (judgeOf m) .timing ≡ a
           → Comes m n (answerBy n v a) (partIn m)
-      go Cyclic a e f = by-6 (judged-refused Cyclic tt (judge-judged m proper) e)
-      go Ends a e f = by-7 (judged-refused Ends tt (judge-judged m proper) e)
-      go Unbalanced a e f = by-8 (judged-refused Unbalanced tt (judge-judged m proper) e)
-      go (Overloaded p) a e f = by-9 (judged-refused (Overloaded p) tt (judge-judged m proper) e)
-      go Sound (Late a) e f = by-10 (judge-judged m proper) e (scheduled-late (schedule-scheduled m (judgeOf m) proper (judge-judged m proper) e) f)
+      go Cyclic a e f = judged-refuses n Cyclic tt (judge-judged m proper) e
+      go Ends a e f = judged-refuses n Ends tt (judge-judged m proper) e
+      go Unbalanced a e f = judged-refuses n Unbalanced tt (judge-judged m proper) e
+      go (Overloaded p) a e f = judged-refuses n (Overloaded p) tt (judge-judged m proper) e
+      go Sound (Late a) e f = scheduled-refuses n (judge-judged m proper) e (schedule-scheduled m (judgeOf m) proper (judge-judged m proper) e) f
       go Sound OnTime e f =
           record {
             judgement = judgeOf m;

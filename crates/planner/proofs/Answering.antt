@@ -18,7 +18,8 @@ use Rattle.whole.specs.declared.Whole.{Whole}
 use Rattle.whole.specs.declared.Outcome.{Outcome}
 use Rattle.whole.specs.declared.Answer.{Answer as WholeAnswer}
 use Rattle.whole.specs.declared.Answer.the-variants.{Planned as IsPlanned, Refused as NotPlanned}
-use Rattle.whole.specs.Whole.{emptyWhole, partAt, Planned, Planning, refused, planned}
+use Rattle.whole.specs.Nothing.{emptyWhole}
+use Rattle.whole.specs.Whole.{partAt, Planned, Planning, refused, planned}
 use Rattle.whole.proofs.Unique.{planning-unique}
 use Rattle.whole.proofs.Bounds.{planned-small}
 use Rattle.layout.specs.Words.{wordsOf}

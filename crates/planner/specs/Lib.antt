@@ -1,2 +1,3 @@
 -- The plan of a text, and the words that it leaves.
 pub mod Plans
+pub mod Numbers

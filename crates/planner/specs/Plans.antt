@@ -13,7 +13,8 @@ use Rattle.reader.specs.declared.Answer.the-variants.{Read, Refused as NotRead}
 use Rattle.reader.specs.Told.{Told}
 use Rattle.whole.specs.declared.Whole.{Whole}
 use Rattle.whole.specs.declared.Answer.the-variants.{Refused as NotPlanned}
-use Rattle.whole.specs.Whole.{emptyWhole, Planned, Planning}
+use Rattle.whole.specs.Nothing.{emptyWhole}
+use Rattle.whole.specs.Whole.{Planned, Planning}
 use Rattle.layout.specs.Words.{WORDS, wordsOf}
 use Rattle.printer.specs.Printed.{PRINTED, planText, Shows}
 use Rattle.planner.specs.declared.Answer.{Answer}

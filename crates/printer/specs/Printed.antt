@@ -31,7 +31,8 @@ use Rattle.csv.specs.Writing.{joined}
 use Rattle.change.specs.declared.Timing.{Timing}
 use Rattle.whole.specs.declared.Part.{Part}
 use Rattle.whole.specs.declared.Whole.{Whole}
-use Rattle.whole.specs.Whole.{noTiming, partAt}
+use Rattle.whole.specs.Nothing.{noTiming}
+use Rattle.whole.specs.Whole.{partAt}
 use Rattle.printer.specs.declared.bytes.Five.{Five}
 use Rattle.printer.specs.Texts.{texts}
 

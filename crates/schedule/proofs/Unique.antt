@@ -17,7 +17,8 @@ use Rattle.tables.specs.declared.Mode.{Mode}
 use Rattle.graph.specs.declared.Judgement.{Judgement}
 use Rattle.schedule.specs.declared.Timetable.{Timetable}
 use Rattle.schedule.specs.Starts.{Starts, Late}
-use Rattle.schedule.specs.Scheduled.{lateBy, Sizes, Times, Scheduled, late, on-time}
+use Rattle.schedule.specs.Nothing.{lateBy}
+use Rattle.schedule.specs.Scheduled.{Sizes, Times, Scheduled, late, on-time}
 
 module _ (m : Mode) where
   -- one table has the least starts

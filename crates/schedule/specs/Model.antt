@@ -18,7 +18,8 @@ use Rattle.channel.specs.Phases.{startOf, sizeOf}
 use Rattle.schedule.specs.declared.Timing.the-variants.{OnTime}
 use Rattle.schedule.specs.declared.Timetable.{Timetable}
 use Rattle.schedule.specs.Starts.{producerOf, consumerOf}
-use Rattle.schedule.specs.Scheduled.{lateBy, ofChannels, tokensOn}
+use Rattle.schedule.specs.Nothing.{lateBy}
+use Rattle.schedule.specs.Scheduled.{ofChannels, tokensOn}
 use Rattle.schedule.specs.Reached.{startAt, toDepth}
 
 -- channel k asks of its consumer

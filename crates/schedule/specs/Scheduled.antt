@@ -4,10 +4,10 @@ use mathlib.Core.Bool.{cond}
 use mathlib.Core.List.{List}
 use Prim.Native.Nat.{ℕ, _≤_, _<_}
 use lib.Dec.{ltb}
-use lib.ListN.{length, getD, take, replicate}
+use lib.ListN.{length, getD, take}
 use Rattle.numbers.specs.Extreme.{Least}
 use Rattle.numbers.specs.Tab.{tab}
-use Rattle.units.specs.Limits.{ACTORS, CHANNELS}
+use Rattle.units.specs.Limits.{CHANNELS}
 use Rattle.units.specs.declared.Tick.{Tick}
 use Rattle.units.specs.declared.Firing.{Firing}
 use Rattle.units.specs.declared.Token.{Token}
@@ -20,20 +20,10 @@ use Rattle.tables.specs.Shape.{actorAt, channelAt}
 use Rattle.graph.specs.declared.Judgement.{Judgement}
 use Rattle.graph.specs.Judged.{ofActors}
 use Rattle.channel.specs.Flow.{IsSize}
-use Rattle.schedule.specs.declared.Timing.the-variants.{Late as IsLate, OnTime}
+use Rattle.schedule.specs.declared.Timing.the-variants.{OnTime}
 use Rattle.schedule.specs.declared.Timetable.{Timetable}
+use Rattle.schedule.specs.Nothing.{lateBy}
 use Rattle.schedule.specs.Starts.{producerOf, consumerOf, Starts, startupOf, Late}
-
--- a refused mode comes with no numbers
-abbrev pub lateBy : ℕ → Timetable
-lateBy a =
-    record {
-      timing = IsLate a;
-      startup = tick 0;
-      starts = replicate ACTORS (tick 0);
-      sizes = replicate CHANNELS (token 0);
-      tokens = replicate CHANNELS (token 0);
-    }
 
 -- for each place what f gives to a channel of the mode, and z where there is none
 abbrev pub ofChannels : {A : Type 0} → Mode → (ℕ → A) → A → List A

@@ -13,7 +13,8 @@ ghost use mathlib.Core.Path.{_≡_};
 ghost use Rattle.tables.specs.Proper.{ProperMode};
 ghost use Rattle.graph.specs.declared.Verdict.the-variants.{Sound};
 ghost use Rattle.graph.specs.Judged.{Judged};
-ghost use Rattle.schedule.specs.Scheduled.{lateBy, Scheduled};
+ghost use Rattle.schedule.specs.Nothing.{lateBy};
+ghost use Rattle.schedule.specs.Scheduled.{Scheduled};
 
 // Whether some actor starts later than the sink: the lowest such actor, by its place.
 pub enum Timing {

@@ -18,7 +18,8 @@ use Rattle.machine.specs.declared.Beginning.the-variants.{Begun, Refused as Not
 use Rattle.machine.specs.declared.Reply.the-variants.{Accepted as Granted, Refused as NotGranted}
 use Rattle.machine.specs.declared.Answer.{Answer as Asked}
 use Rattle.machine.specs.Answers.{Begins, Answers}
-use Rattle.stellarsnare.specs.Face.{numbersOf, noNumbers, threeOf, machineOf, PlanTold, StartTold, RequestTold, PrintTold}
+use Rattle.terms.specs.Refusal.{numbersOf, noNumbers}
+use Rattle.stellarsnare.specs.Face.{threeOf, machineOf, PlanTold, StartTold, RequestTold, PrintTold}
 
 -- a refusal leaves the words, the machine and the bytes as they stood
 plan-kept : {text words after : List ℕ} {a : Answer} {r : Refusal} → Plans text words a after → a ≡ Refused r → after ≡ words

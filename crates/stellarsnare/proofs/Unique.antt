@@ -17,7 +17,9 @@ use Rattle.machine.specs.declared.Reply.{Reply}
 use Rattle.machine.specs.declared.Reply.the-variants.{Accepted as Granted, Refused as NotGranted}
 use Rattle.machine.specs.declared.Answer.{Answer as Asked}
 use Rattle.machine.proofs.Unique.{begins-unique, answers-unique}
-use Rattle.stellarsnare.specs.Face.{planNumbers, startNumbers, requestNumbers, printNumbers, threeOf, PlanTold, StartTold, RequestTold, PrintTold}
+use Rattle.planner.specs.Numbers.{planNumbers, printNumbers}
+use Rattle.machine.specs.Numbers.{startNumbers, requestNumbers}
+use Rattle.stellarsnare.specs.Face.{threeOf, PlanTold, StartTold, RequestTold, PrintTold}
 
 -- no answer both accepts and refuses
 accepted-not-refused : {r : Refusal} → Accepted ≡ Refused r → ⊥

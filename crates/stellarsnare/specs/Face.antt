@@ -6,50 +6,15 @@ use lib.ListN.{getD}
 use Rattle.units.specs.declared.Tick.{Tick}
 use Rattle.units.specs.Ticks.{tick}
 use Rattle.terms.specs.declared.refusal.Refusal.{Refusal}
-use Rattle.terms.specs.declared.refusal.Printed.{Printed as Line}
-use Rattle.terms.specs.Refusal.{printedOf}
-use Rattle.planner.specs.declared.Answer.{Answer}
 use Rattle.planner.specs.declared.Answer.the-variants.{Accepted, Refused}
-use Rattle.planner.specs.declared.Printing.{Printing}
 use Rattle.planner.specs.declared.Printing.the-variants.{Printed, Refused as NotPrinted}
 use Rattle.planner.specs.Plans.{Plans, Prints}
+use Rattle.planner.specs.Numbers.{planNumbers, printNumbers}
 use Rattle.machine.specs.declared.Machine.{Machine}
-use Rattle.machine.specs.declared.Beginning.{Beginning}
 use Rattle.machine.specs.declared.Beginning.the-variants.{Begun, Refused as NotBegun}
-use Rattle.machine.specs.declared.Reply.{Reply}
 use Rattle.machine.specs.declared.Reply.the-variants.{Accepted as Granted, Refused as NotGranted}
 use Rattle.machine.specs.Answers.{Begins, Answers}
-
--- the five numbers of a line: number, row, mode, actor, processor
-abbrev pub five : Line → List ℕ
-five l = l .number ∷ l .row ∷ l .mode ∷ l .actor ∷ l .processor ∷ []
-
--- those of a refusal's line, with 0 where none is named; and those that are given where nothing is refused
-abbrev pub numbersOf : Refusal → List ℕ
-numbersOf r = five (printedOf r)
-
-abbrev pub noNumbers : List ℕ
-noNumbers = 0 ∷ 0 ∷ 0 ∷ 0 ∷ 0 ∷ []
-
--- the five numbers of each answer to a table
-abbrev pub planNumbers : Answer → List ℕ
-planNumbers Accepted = noNumbers
-planNumbers (Refused r) = numbersOf r
-
--- to a start
-abbrev pub startNumbers : Beginning → List ℕ
-startNumbers (Begun m) = noNumbers
-startNumbers (NotBegun r) = numbersOf r
-
--- to a request
-abbrev pub requestNumbers : Reply → List ℕ
-requestNumbers (Granted d) = noNumbers
-requestNumbers (NotGranted r) = numbersOf r
-
--- and to the printing of a plan
-abbrev pub printNumbers : Printing → List ℕ
-printNumbers (Printed n) = noNumbers
-printNumbers (NotPrinted r) = numbersOf r
+use Rattle.machine.specs.Numbers.{startNumbers, requestNumbers}
 
 -- a machine as three numbers: its mode, its starting tick and the tick at which its change ends
 abbrev pub threeOf : Machine → List ℕ

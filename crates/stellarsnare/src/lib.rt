@@ -8,7 +8,8 @@ use terms::refusal::Refusal;
 use units::Tick;
 ghost use mathlib.Core.Path.{_≡_};
 ghost use mathlib.Core.Bool.{true, false};
-ghost use Rattle.stellarsnare.specs.Face.{noNumbers, numbersOf, threeOf, PlanTold, StartTold, RequestTold, PrintTold};
+ghost use Rattle.terms.specs.Refusal.{noNumbers, numbersOf};
+ghost use Rattle.stellarsnare.specs.Face.{threeOf, PlanTold, StartTold, RequestTold, PrintTold};
 
 fn accept(refusal: &mut [u64; 5]) -> bool
     ensures { λ r. ⌜ (r ≡ true) × (now (refusal .exit) ≡ noNumbers) ⌝ }

@@ -3,6 +3,7 @@ use Rattle.terms.specs.declared.refusal.Place.{Place}
 use Rattle.terms.specs.declared.refusal.Place.the-variants.{Nowhere, Row, Mode, Actor, Processor}
 use Rattle.terms.specs.declared.refusal.Refusal.{Refusal}
 use Rattle.terms.specs.declared.refusal.Printed.{Printed}
+use mathlib.Core.List.{List, [], _∷_}
 use Prim.Native.Nat.{ℕ}
 
 -- The numbers of the refusals.
@@ -85,3 +86,14 @@ printedAt n (Processor m p) = lineOf n 0 m 0 p
 
 abbrev pub printedOf : Refusal → Printed
 printedOf r = printedAt (r .number) (r .place)
+
+-- the five numbers of a line: number, row, mode, actor, processor
+abbrev pub five : Printed → List ℕ
+five l = l .number ∷ l .row ∷ l .mode ∷ l .actor ∷ l .processor ∷ []
+
+-- the numbers of an answer: those of its refusal's line, with 0 where none is named; and all 0 where nothing is refused
+abbrev pub numbersOf : Refusal → List ℕ
+numbersOf r = five (printedOf r)
+
+abbrev pub noNumbers : List ℕ
+noNumbers = 0 ∷ 0 ∷ 0 ∷ 0 ∷ 0 ∷ []

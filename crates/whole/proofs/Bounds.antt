@@ -40,7 +40,8 @@ use Rattle.schedule.proofs.Laws.{starts-within}
 use Rattle.change.specs.declared.Timing.{Timing}
 use Rattle.whole.specs.declared.Part.{Part}
 use Rattle.whole.specs.declared.Whole.{Whole}
-use Rattle.whole.specs.Whole.{noTiming, emptyPart, partAt, changeAt, Listed, ModePlanned, IsPart, Leads, IsChange, Planned}
+use Rattle.whole.specs.Nothing.{noTiming, emptyPart}
+use Rattle.whole.specs.Whole.{partAt, changeAt, Listed, ModePlanned, IsPart, Leads, IsChange, Planned}
 use Rattle.whole.proofs.Told.{judged-sound, scheduled-times}
 use Rattle.whole.proofs.Unique.{listed-or-not, leads-or-not}
 

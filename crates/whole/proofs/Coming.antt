@@ -18,7 +18,8 @@ use Rattle.whole.specs.declared.Part.{Part}
 use Rattle.whole.specs.declared.Whole.{Whole}
 use Rattle.whole.specs.declared.Answer.{Answer}
 use Rattle.whole.specs.declared.Answer.the-variants.{Planned as IsPlanned, Refused as IsRefused}
-use Rattle.whole.specs.Whole.{noPart, changeAt, Listed, IsPart, IsChange, Planned}
+use Rattle.whole.specs.Nothing.{noPart}
+use Rattle.whole.specs.Whole.{changeAt, Listed, IsPart, IsChange, Planned}
 use Rattle.whole.specs.Steps.{Comes, AnyComes, AllCome, noRunning, runningAt, runningsOf, Between, FoundParts, FoundChanges, runningOf}
 use Rattle.whole.proofs.Running.{listed-some, listed-none}
 

@@ -32,9 +32,10 @@ use Rattle.change.specs.Waits.{overlapOf, offsetFrom}
 use Rattle.change.proofs.Offsets.{found}
 use Rattle.whole.specs.declared.Part.{Part}
 use Rattle.whole.specs.declared.Outcome.{Outcome}
-use Rattle.whole.specs.Whole.{noPart, noTiming, emptyPart, Listed, ModeRefused, by-6, by-7, by-8, by-9, by-10, partOf, ModePlanned, IsPart, Planning, refused, planned}
+use Rattle.whole.specs.Nothing.{noPart, noTiming, emptyPart}
+use Rattle.whole.specs.Whole.{Listed, ModeRefused, partOf, ModePlanned, IsPart, Planning, refused, planned}
 use Rattle.whole.specs.Steps.{runningAt, runningsOf, AllReady, Between, ChangeOf, FoundParts, FoundChanges}
-use Rattle.whole.proofs.Told.{judged-refused, scheduled-late}
+use Rattle.whole.proofs.Told.{judged-refuses, scheduled-refuses}
 use Rattle.whole.proofs.Unique.{listed-or-not}
 use Rattle.whole.proofs.Running.{all-ready}
 use Rattle.whole.proofs.Coming.{plan-comes}
@@ -44,7 +45,7 @@ pub mode-decided : (m : Mode) (n : ℕ) → ProperMode m → ((p : Part) × Mode
 mode-decided m n proper = go (judgeOf m .verdict) refl
   where
     timed : (e : judgeOf m .verdict ≡ Sound) (a : Answer) → scheduleOf m (judgeOf m) .timing ≡ a → ((p : Part) × ModePlanned m p) ⊎ ((r : Refusal) × ModeRefused m n r)
-    timed e (Late a) f = inr (_, by-10 (judge-judged m proper) e (scheduled-late (schedule-scheduled m (judgeOf m) proper (judge-judged m proper) e) f))
+    timed e (Late a) f = inr (_, scheduled-refuses n (judge-judged m proper) e (schedule-scheduled m (judgeOf m) proper (judge-judged m proper) e) f)
     timed e OnTime f =
         inl (
           partOf (judgeOf m) (scheduleOf m (judgeOf m)),
@@ -60,10 +61,10 @@ mode-decided m n proper = go (judgeOf m .verdict) refl
         )
 
     go : (v : Verdict) → judgeOf m .verdict ≡ v → ((p : Part) × ModePlanned m p) ⊎ ((r : Refusal) × ModeRefused m n r)
-    go Cyclic e = inr (_, by-6 (judged-refused Cyclic tt (judge-judged m proper) e))
-    go Ends e = inr (_, by-7 (judged-refused Ends tt (judge-judged m proper) e))
-    go Unbalanced e = inr (_, by-8 (judged-refused Unbalanced tt (judge-judged m proper) e))
-    go (Overloaded p) e = inr (_, by-9 (judged-refused (Overloaded p) tt (judge-judged m proper) e))
+    go Cyclic e = inr (_, judged-refuses n Cyclic tt (judge-judged m proper) e)
+    go Ends e = inr (_, judged-refuses n Ends tt (judge-judged m proper) e)
+    go Unbalanced e = inr (_, judged-refuses n Unbalanced tt (judge-judged m proper) e)
+    go (Overloaded p) e = inr (_, judged-refuses n (Overloaded p) tt (judge-judged m proper) e)
     go Sound e = timed e (scheduleOf m (judgeOf m) .timing) refl
 
 -- two modes have a change, or none

@@ -35,7 +35,8 @@ use Rattle.schedule.proofs.Sound.{at-actor}
 use Rattle.change.specs.Work.{Fitting}
 use Rattle.change.specs.Running.{askedBy as asked, askedOf, Bearable, Ready}
 use Rattle.whole.specs.declared.Part.{Part}
-use Rattle.whole.specs.Whole.{noPart, partOf as planOf, Listed, ModePlanned, IsPart}
+use Rattle.whole.specs.Nothing.{noPart}
+use Rattle.whole.specs.Whole.{partOf as planOf, Listed, ModePlanned, IsPart}
 use Rattle.whole.specs.Steps.{noRunning, idleRunning, runningsOf, AllReady, FoundParts, runningOf}
 use Rattle.whole.proofs.Told.{judged-sound, scheduled-times}
 use Rattle.whole.proofs.Bounds.{mode-small, part-small}

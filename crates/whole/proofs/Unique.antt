@@ -3,6 +3,7 @@ use mathlib.Core.Path.{_≡_, refl, sym, ap, ap₂, subst, subst₂, _∙_}
 use mathlib.Core.List.{List}
 use mathlib.Core.Logic.{⊎-elim}
 use Prim.Native.Nat.{ℕ, _+_, _*_, _/_, _%_, _<_, zero-le}
+use native.Mathlib.Nat.{le-antisymm, not-le-of-lt}
 use native.Mathlib.Omega.{arith}
 use native.Mathlib.Decide.{decLt, ℕ-discrete}
 use lib.ListN.{getD}
@@ -11,116 +12,104 @@ use Rattle.numbers.specs.Bits.{hasb, has-decides}
 use Rattle.numbers.specs.Decides.{decides-true, decides-false}
 use Rattle.numbers.specs.Lowest.{sought}
 use Rattle.units.specs.Limits.{MODES, ACTORS}
-use Rattle.terms.specs.Refusal.{CYCLE, NO-ENDS, NO-BALANCE, OVERLOAD, LATE}
-use Rattle.terms.specs.declared.refusal.Place.the-variants.{Nowhere, Mode as AtMode, Actor as AtActor, Processor as AtProcessor}
+use Rattle.units.specs.declared.Tick.{Tick}
+use Rattle.units.specs.Ticks.{tick}
+use Rattle.period.specs.Period.{periodOf}
+use Rattle.terms.specs.Refusal.{OVERLOAD, LATE}
+use Rattle.terms.specs.declared.refusal.Place.the-variants.{Actor as AtActor, Processor as AtProcessor}
 use Rattle.terms.specs.declared.refusal.Refusal.{Refusal}
 use Rattle.terms.specs.Place.{numberOf}
 use Rattle.tables.specs.declared.Mode.{Mode}
 use Rattle.tables.specs.declared.Table.{Table}
 use Rattle.tables.specs.Shape.{modeAt}
-use Rattle.graph.specs.declared.Verdict.{Verdict}
-use Rattle.graph.specs.declared.Verdict.the-variants.{Cyclic, Ends, Unbalanced, Overloaded, Sound}
 use Rattle.graph.specs.declared.Judgement.{Judgement}
-use Rattle.graph.specs.Judged.{Judged, refusedBy}
-use Rattle.graph.proofs.Unique.{judged-unique}
-use Rattle.schedule.specs.declared.Timing.{Timing}
-use Rattle.schedule.specs.declared.Timing.the-variants.{Late, OnTime}
-use Rattle.schedule.specs.declared.Timetable.{Timetable}
-use Rattle.schedule.specs.Scheduled.{Scheduled, lateBy}
-use Rattle.schedule.proofs.Unique.{scheduled-unique}
+use Rattle.graph.specs.Balance.{Unbalanced, firingsOf}
+use Rattle.graph.specs.Load.{Overloaded}
+use Rattle.graph.proofs.Unique.{only-unique, of-actors, smallest-same, lengths-same, over-again, judged-unique}
+use Rattle.schedule.specs.Starts.{Starts, Late}
+use Rattle.schedule.specs.Scheduled.{Scheduled}
+use Rattle.schedule.proofs.Unique.{starts-unique, scheduled-unique}
 use Rattle.change.specs.Change.{Changes, changes-unique}
 use Rattle.whole.specs.declared.Part.{Part}
 use Rattle.whole.specs.declared.Whole.{Whole}
 use Rattle.whole.specs.declared.Answer.the-variants.{Refused as IsRefused, Planned as IsPlanned}
 use Rattle.whole.specs.declared.Outcome.{Outcome}
-use Rattle.whole.specs.Whole.{timesOf, noPart, noTiming, emptyWhole, changeAt, Listed, refusal, ModeRefused, by-6, by-7, by-8, by-9, by-10, partOf, ModePlanned, IsPart, Leads, IsChange, Planned, Planning, refused, planned}
-
--- the refusal of a mode with number n by its verdict and its timing
-abbrev refusalOf : ℕ → Verdict → Timing → Refusal
-refusalOf n Cyclic t = refusal CYCLE (AtMode n)
-refusalOf n Ends t = refusal NO-ENDS (AtMode n)
-refusalOf n Unbalanced t = refusal NO-BALANCE (AtMode n)
-refusalOf n (Overloaded p) t = refusal OVERLOAD (AtProcessor n (numberOf p))
-refusalOf n Sound (Late a) = refusal LATE (AtActor n (numberOf a))
-refusalOf n Sound OnTime = refusal 0 Nowhere
-
--- one of the two refuses
-abbrev Fails : Verdict → Timing → Type 0
-Fails Sound OnTime = ⊥
-Fails Sound (Late a) = Unit {0}
-Fails Cyclic t = Unit {0}
-Fails Ends t = Unit {0}
-Fails Unbalanced t = Unit {0}
-Fails (Overloaded p) t = Unit {0}
-
--- a refusal by what is judged and scheduled of the mode
-record Why (m : Mode) (n : ℕ) (r : Refusal) : Type 0 where
-  judgement : Judgement
-  timetable : Timetable
-  judged : Judged m judgement
-  scheduled : judgement .verdict ≡ Sound → Scheduled m judgement timetable
-  fails : Fails (judgement .verdict) (timetable .timing)
-  is : r ≡ refusalOf n (judgement .verdict) (timetable .timing)
-
-abbrev Passed : Verdict → Type 0
-Passed Sound = Unit {0}
-Passed Cyclic = ⊥
-Passed Ends = ⊥
-Passed Unbalanced = ⊥
-Passed (Overloaded p) = ⊥
+use Rattle.whole.specs.Nothing.{noPart, noTiming, emptyWhole}
+use Rattle.whole.specs.Whole.{changeAt, Listed, refusal, periodsOf, Balanced, ModeRefused, by-6, by-7, by-8, by-9, by-10, partOf, ModePlanned, IsPart, timesOf, Leads, IsChange, Planned, Planning, refused, planned}
+use Rattle.whole.proofs.Told.{judged-sound, scheduled-times, numbers-balanced}
 
 module _ {m : Mode} where
-  why : {n : ℕ} {r : Refusal} → ModeRefused m n r → Why m n r
-  why (by-6 j) = record { judgement = refusedBy Cyclic; timetable = lateBy 0; judged = j; scheduled = λ e. absurd (subst Passed (sym e) tt); fails = tt; is = refl }
-  why (by-7 j) = record { judgement = refusedBy Ends; timetable = lateBy 0; judged = j; scheduled = λ e. absurd (subst Passed (sym e) tt); fails = tt; is = refl }
-  why (by-8 j) = record { judgement = refusedBy Unbalanced; timetable = lateBy 0; judged = j; scheduled = λ e. absurd (subst Passed (sym e) tt); fails = tt; is = refl }
-  why (by-9 {p} j) =
-      record { judgement = refusedBy (Overloaded p); timetable = lateBy 0; judged = j; scheduled = λ e. absurd (subst Passed (sym e) tt); fails = tt; is = refl }
-  why {n} (by-10 {a} {j} k e s) =
-      record {
-        judgement = j;
-        timetable = lateBy a;
-        judged = k;
-        scheduled = λ f. s;
-        fails = subst (λ (v : Verdict). Fails v (Late a)) (sym e) tt;
-        is = ap (λ (v : Verdict). refusalOf n v (Late a)) (sym e);
-      }
+  -- a mode is reckoned in one way only
+  module _ {s t u v : ℕ} {x y : ℕ → ℕ} {h g : Tick} (p : Balanced m s t x h) (q : Balanced m u v y g) where
+    periods-same : periodsOf m x h ≡ periodsOf m y g
+    periods-same =
+        of-actors m (λ i. periodOf h (firingsOf m x i)) (λ i. periodOf g (firingsOf m y i)) (tick 0)
+        (λ i a. ap (λ (n : ℕ). periodOf h (firingsOf m (λ (j : ℕ). n) i)) (smallest-same m x y (p .smallest) (q .smallest) i a)
+        ∙ ap (λ (t : Tick). periodOf t (firingsOf m y i)) (lengths-same m x y (p .smallest) (q .smallest) (p .iteration) (q .iteration)))
 
-  -- a sound mode has one timetable
-  same-times : {j k : Judgement} {s t : Timetable} → Judged m j → Judged m k → j .verdict ≡ Sound → Scheduled m j s → (k .verdict ≡ Sound → Scheduled m k t) → s ≡ t
-  same-times {j} {k} {s} {t} a b e p q =
-      let same : k ≡ j = judged-unique m b a in
-      scheduled-unique m j p (subst (λ (j : Judgement). Scheduled m j t) same (q (ap (λ (j : Judgement). j .verdict) same ∙ e)))
+    over-same : (n : ℕ) → Overloaded m x h n → Overloaded m y g n
+    over-same = over-again m x y (p .smallest) (q .smallest) (p .iteration) (q .iteration)
+
+    late-same : {b c : ℕ → Tick} → Starts m (periodsOf m x h) b → Starts m (periodsOf m y g) c → (i : ℕ) → Late m b t i → Late m c v i
+    late-same {b} {c} d e i =
+        let same : b ≡ c = starts-unique m (periodsOf m y g) (subst (λ (ps : List Tick). Starts m ps b) periods-same d) e in
+        subst₂ (λ (b : ℕ → Tick) (t : ℕ). Late m b t i) same (only-unique _ (p .ends .1) (q .ends .1))
+
+  unbalanced-not : {s t : ℕ} {x : ℕ → ℕ} {h : Tick} → Unbalanced m → Balanced m s t x h → ⊥
+  unbalanced-not u p = not-le-of-lt (u _ _ (p .smallest .balances) (p .iteration)) (p .within)
 
   -- a mode has one refusal, or one part, and not both
   pub refusal-unique : {n : ℕ} {r s : Refusal} → ModeRefused m n r → ModeRefused m n s → r ≡ s
-  refusal-unique {n} p q = let a = why p in let b = why q in a .is ∙ go a b (a .judgement .verdict) refl ∙ sym (b .is)
-    where
-      go : {r s : Refusal} (a : Why m n r) (b : Why m n s) (v : Verdict) → a .judgement .verdict ≡ v
-          → refusalOf n (a .judgement .verdict) (a .timetable .timing) ≡ refusalOf n (b .judgement .verdict) (b .timetable .timing)
-      go a b v e =
-          let f : b .judgement .verdict ≡ v = ap (λ (j : Judgement). j .verdict) (judged-unique m (b .judged) (a .judged)) ∙ e in
-          ap (λ (v : Verdict). refusalOf n v (a .timetable .timing)) e ∙ at v e ∙ ap (λ (v : Verdict). refusalOf n v (b .timetable .timing)) (sym f)
-        where
-          at : (v : Verdict) → a .judgement .verdict ≡ v → refusalOf n v (a .timetable .timing) ≡ refusalOf n v (b .timetable .timing)
-          at Cyclic e = refl
-          at Ends e = refl
-          at Unbalanced e = refl
-          at (Overloaded p) e = refl
-          at Sound e = ap (λ (s : Timetable). refusalOf n Sound (s .timing)) (same-times (a .judged) (b .judged) e (a .scheduled e) (b .scheduled))
+  refusal-unique (by-6 c) (by-6 d) = refl
+  refusal-unique (by-6 c) (by-7 n e) = absurd (n c)
+  refusal-unique (by-6 c) (by-8 n e u) = absurd (n c)
+  refusal-unique (by-6 c) (by-9 p o) = absurd (p .acyclic c)
+  refusal-unique (by-6 c) (by-10 p f b l) = absurd (p .acyclic c)
+  refusal-unique (by-7 n e) (by-6 c) = absurd (n c)
+  refusal-unique (by-7 n e) (by-7 k d) = refl
+  refusal-unique (by-7 n e) (by-8 k d u) = absurd (e _ _ d)
+  refusal-unique (by-7 n e) (by-9 p o) = absurd (e _ _ (p .ends))
+  refusal-unique (by-7 n e) (by-10 p f b l) = absurd (e _ _ (p .ends))
+  refusal-unique (by-8 n e u) (by-6 c) = absurd (n c)
+  refusal-unique (by-8 n e u) (by-7 k d) = absurd (d _ _ e)
+  refusal-unique (by-8 n e u) (by-8 k d v) = refl
+  refusal-unique (by-8 n e u) (by-9 p o) = absurd (unbalanced-not u p)
+  refusal-unique (by-8 n e u) (by-10 p f b l) = absurd (unbalanced-not u p)
+  refusal-unique (by-9 p o) (by-6 c) = absurd (p .acyclic c)
+  refusal-unique (by-9 p o) (by-7 k d) = absurd (d _ _ (p .ends))
+  refusal-unique (by-9 p o) (by-8 k d u) = absurd (unbalanced-not u p)
+  refusal-unique {n} (by-9 p o) (by-9 q w) =
+      ap (λ (i : ℕ). refusal OVERLOAD (AtProcessor n (numberOf i)))
+      (le-antisymm (o .least _ (over-same q p _ (w .holds))) (w .least _ (over-same p q _ (o .holds))))
+  refusal-unique (by-9 p o) (by-10 q f b l) = absurd (f _ (over-same p q _ (o .holds)))
+  refusal-unique (by-10 p f b l) (by-6 c) = absurd (p .acyclic c)
+  refusal-unique (by-10 p f b l) (by-7 k d) = absurd (d _ _ (p .ends))
+  refusal-unique (by-10 p f b l) (by-8 k d u) = absurd (unbalanced-not u p)
+  refusal-unique (by-10 p f b l) (by-9 q o) = absurd (f _ (over-same q p _ (o .holds)))
+  refusal-unique {n} (by-10 p f b l) (by-10 q g c k) =
+      ap (λ (i : ℕ). refusal LATE (AtActor n (numberOf i)))
+      (le-antisymm (l .least _ (late-same q p c b _ (k .holds))) (k .least _ (late-same p q b c _ (l .holds))))
 
   pub part-unique : {p q : Part} → ModePlanned m p → ModePlanned m q → p ≡ q
   part-unique p q =
+      let same = judged-unique m (q .judged) (p .judged) in
       p .part
-      ∙ ap₂ partOf (judged-unique m (p .judged) (q .judged)) (same-times (p .judged) (q .judged) (p .sound) (p .scheduled) (λ e. q .scheduled))
+      ∙ ap₂ partOf (sym same) (scheduled-unique m _ (p .scheduled) (subst (λ (j : Judgement). Scheduled m j (q .timetable)) same (q .scheduled)))
       ∙ sym (q .part)
 
   pub planned-refused : {p : Part} {n : ℕ} {r : Refusal} → ModePlanned m p → ModeRefused m n r → ⊥
-  planned-refused p q =
-      let a = why q in
-      let verdict : a .judgement .verdict ≡ Sound = ap (λ (j : Judgement). j .verdict) (judged-unique m (a .judged) (p .judged)) ∙ p .sound in
-      let times = same-times (p .judged) (a .judged) (p .sound) (p .scheduled) (a .scheduled) in
-      subst₂ Fails verdict (ap (λ (s : Timetable). s .timing) (sym times) ∙ p .on-time) (a .fails)
+  planned-refused {n = n} w =
+      let (x, acyclic, numbers, bears) = judged-sound (w .judged) (w .sound) in
+      let (b, starts, prompt, times) = scheduled-times (w .scheduled) (w .on-time) in
+      go x b (numbers-balanced acyclic numbers) bears (subst (λ (ps : List Tick). Starts m ps b) (numbers .periods) starts) prompt
+    where
+      go : {s t : ℕ} {h : Tick} {r : Refusal} (x : ℕ → ℕ) (b : ℕ → Tick) → Balanced m s t x h → ((i : ℕ) → Overloaded m x h i → ⊥) → Starts m (periodsOf m x h) b
+          → ((i : ℕ) → Late m b t i → ⊥) → ModeRefused m n r → ⊥
+      go x b p f d f′ (by-6 c) = p .acyclic c
+      go x b p f d f′ (by-7 k e) = e _ _ (p .ends)
+      go x b p f d f′ (by-8 k e u) = unbalanced-not u p
+      go x b p f d f′ (by-9 q o) = f _ (over-same q p _ (o .holds))
+      go x b p f d f′ (by-10 q g c l) = f′ _ (late-same q p c d _ (l .holds))
 
 module _ (t : Table) where
   -- a mode is listed or not

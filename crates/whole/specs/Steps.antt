@@ -18,7 +18,8 @@ use Rattle.change.specs.Running.{Ready, Changes}
 use Rattle.whole.specs.declared.Part.{Part}
 use Rattle.whole.specs.declared.Answer.{Answer}
 use Rattle.whole.specs.declared.Answer.the-variants.{Planned as IsPlanned, Refused as IsRefused}
-use Rattle.whole.specs.Whole.{noPart, noTiming, emptyPart, Listed, ModeRefused, ModePlanned, IsPart}
+use Rattle.whole.specs.Nothing.{noPart, noTiming, emptyPart}
+use Rattle.whole.specs.Whole.{Listed, ModeRefused, ModePlanned, IsPart}
 
 -- the parts of the modes below k are found
 abbrev pub FoundParts : Table → List Part → ℕ → Type 0

@@ -15,7 +15,7 @@ ghost use Prim.Native.Nat.{_*_};
 ghost use Rattle.units.specs.Limits.{MODES};
 ghost use Rattle.tables.specs.Proper.{ProperTable};
 ghost use Rattle.change.specs.Running.{Ready};
-ghost use Rattle.whole.specs.Whole.{noTiming};
+ghost use Rattle.whole.specs.Nothing.{noTiming};
 ghost use Rattle.whole.specs.Steps.{idleRunning, runningsOf, AllReady, Between, FoundParts, FoundChanges};
 
 // No change.

@@ -13,7 +13,8 @@ use units::limits::CHANNELS;
 use units::limits::MODES;
 ghost use mathlib.Core.Path.{_≡_};
 ghost use Rattle.tables.specs.Proper.{ProperTable};
-ghost use Rattle.whole.specs.Whole.{emptyWhole, Planning};
+ghost use Rattle.whole.specs.Nothing.{emptyWhole};
+ghost use Rattle.whole.specs.Whole.{Planning};
 ghost use Rattle.whole.specs.declared.Answer.the-variants.{Refused};
 
 // What is planned of a mode. Places of actors count from 0; all 0 where the mode is not listed.

@@ -28,7 +28,8 @@ ghost use Rattle.tables.specs.Proper.{ProperMode, ProperTable};
 ghost use Rattle.graph.specs.declared.Verdict.the-variants.{Sound};
 ghost use Rattle.graph.specs.Judged.{Judged};
 ghost use Rattle.whole.specs.declared.Answer.the-variants.{Refused};
-ghost use Rattle.whole.specs.Whole.{refusal, emptyPart, partOf};
+ghost use Rattle.whole.specs.Nothing.{emptyPart};
+ghost use Rattle.whole.specs.Whole.{refusal, partOf};
 ghost use Rattle.whole.specs.Steps.{Comes, AnyComes, AllCome};
 
 // What comes of a mode: its answer, and its part.

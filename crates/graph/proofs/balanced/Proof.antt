@@ -10,7 +10,7 @@ use Rattle.units.specs.Limits.{ACTORS}
 use Rattle.tables.specs.declared.Mode.{Mode}
 use Rattle.graph.specs.declared.balance.Counts.{Counts}
 use Rattle.graph.specs.declared.Verdict.the-variants.{Unbalanced}
-use Rattle.graph.specs.Judged.{refusedBy}
+use Rattle.graph.specs.Nothing.{refusedBy}
 use Rattle.graph.specs.Counts.{Small, Counted, Entered, countsFrom, countsOf, balancesb}
 use Rattle.graph.specs.Judge.{timedOf, byCounts, balancedOf}
 use Rattle.graph.proofs.Sorted.{ranked-acyclic}

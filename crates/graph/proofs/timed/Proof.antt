@@ -12,7 +12,7 @@ use Rattle.units.specs.Limits.{PROCESSORS}
 use Rattle.period.specs.declared.Length.the-variants.{Is}
 use Rattle.tables.specs.declared.Mode.{Mode}
 use Rattle.graph.specs.declared.Verdict.the-variants.{Overloaded, Sound}
-use Rattle.graph.specs.Judged.{refusedBy}
+use Rattle.graph.specs.Nothing.{refusedBy}
 use Rattle.graph.specs.Laws.{iteration-pos}
 use Rattle.graph.specs.Lengths.{Few, Light, Fires, firingsIn, worksIn, lengthOf, periodsIn, sharesIn, overloadedOf}
 use Rattle.graph.specs.Judge.{soundBy, loaded, timedOf}

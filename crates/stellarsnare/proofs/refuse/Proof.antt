@@ -1,7 +1,7 @@
 -- stellarsnare::refuse meets its contract. Assumes nothing.
 use borrow.Author.Needs.{needs}
 use mathlib.Core.Path.{refl, ap}
-use Rattle.stellarsnare.specs.Face.{five}
+use Rattle.terms.specs.Refusal.{five}
 use Rattle.stellarsnare.proofs.refuse.Statement.{statement}
 use Rattle.stellarsnare.proofs.refuse.Tie as tie
 

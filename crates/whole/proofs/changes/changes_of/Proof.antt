@@ -5,7 +5,7 @@ use Prim.Native.Nat.{_*_, _-_, _/_, _%_}
 use native.Mathlib.Omega.{arith}
 use Rattle.numbers.specs.Filled.{filled-none, filled-set}
 use Rattle.units.specs.Limits.{MODES}
-use Rattle.whole.specs.Whole.{noTiming}
+use Rattle.whole.specs.Nothing.{noTiming}
 use Rattle.whole.specs.Steps.{FoundChanges}
 use Rattle.whole.proofs.changes.changes_of.Statement.{statement}
 use Rattle.whole.proofs.changes.changes_of.Tie as tie

@@ -7,7 +7,7 @@ use lib.ListN.{getD}
 use Rattle.numbers.specs.Filled.{FilledBy, filled-none, filled-set, filled-left, filled-all}
 use Rattle.units.specs.Limits.{MODES}
 use Rattle.tables.specs.Shape.{modeAt}
-use Rattle.whole.specs.Whole.{noPart}
+use Rattle.whole.specs.Nothing.{noPart}
 use Rattle.whole.specs.Steps.{idleRunning, runningOf}
 use Rattle.whole.proofs.Running.{part-fitting, part-idle}
 use Rattle.whole.proofs.changes.runnings_of.Statement.{statement}

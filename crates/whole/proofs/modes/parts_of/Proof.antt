@@ -5,7 +5,7 @@ use Prim.Native.Nat.{_-_}
 use native.Mathlib.Omega.{arith}
 use Rattle.numbers.specs.Filled.{filled-none, filled-set}
 use Rattle.units.specs.Limits.{MODES}
-use Rattle.whole.specs.Whole.{noPart, emptyPart}
+use Rattle.whole.specs.Nothing.{noPart, emptyPart}
 use Rattle.whole.specs.Steps.{FoundParts}
 use Rattle.whole.proofs.Coming.{part-comes, refusal-comes}
 use Rattle.whole.proofs.modes.parts_of.Statement.{statement}

@@ -4,9 +4,8 @@ use mathlib.Core.Path.{sym, subst}
 use native.Mathlib.Omega.{arith}
 use Rattle.graph.specs.declared.Verdict.the-variants.{Cyclic, Ends, Unbalanced, Overloaded}
 use Rattle.whole.specs.declared.modes.Piece.{Piece}
-use Rattle.whole.specs.Whole.{by-6, by-7, by-8, by-9}
 use Rattle.whole.specs.Steps.{Comes}
-use Rattle.whole.proofs.Told.{judged-refused, judged-processor}
+use Rattle.whole.proofs.Told.{judged-refuses, judged-processor}
 use Rattle.whole.proofs.modes.piece_of.Statement.{statement}
 use Rattle.whole.proofs.modes.piece_of.Tie as tie
 
@@ -17,24 +16,24 @@ Come c r = Comes (c .args .mode) (c .args .number) (r .answer) (r .part)
 returns : tie.Need-returns
 returns c =
     let j = c .before .before .before in
-    subst (Come (j .before)) (sym (c .refused .ensures)) (by-6 (judged-refused Cyclic tt (j .judge .ensures) (c .before .enum-told .given .1)))
+    subst (Come (j .before)) (sym (c .refused .ensures)) (judged-refuses _ Cyclic tt (j .judge .ensures) (c .before .enum-told .given .1))
 
 returns-2 : tie.Need-returns-2
 returns-2 c =
     let j = c .before .before .before in
-    subst (Come (j .before)) (sym (c .refused2 .ensures)) (by-7 (judged-refused Ends tt (j .judge .ensures) (c .before .enum-told2 .given .1)))
+    subst (Come (j .before)) (sym (c .refused2 .ensures)) (judged-refuses _ Ends tt (j .judge .ensures) (c .before .enum-told2 .given .1))
 
 returns-3 : tie.Need-returns-3
 returns-3 c =
     let j = c .before .before .before in
-    subst (Come (j .before)) (sym (c .refused3 .ensures)) (by-8 (judged-refused Unbalanced tt (j .judge .ensures) (c .before .enum-told3 .given .1)))
+    subst (Come (j .before)) (sym (c .refused3 .ensures)) (judged-refuses _ Unbalanced tt (j .judge .ensures) (c .before .enum-told3 .given .1))
 
 returns-4 : tie.Need-returns-4
 returns-4 c =
     let d = c .before .before .before in
     let j = d .before .before in
     subst (Come (j .before)) (sym (c .refused4 .ensures))
-    (rw (c .before .number-of .ensures) (by-9 (judged-refused (Overloaded (d .verdict .given .0 .0)) tt (j .judge .ensures) (d .verdict .given .1))))
+    (rw (c .before .number-of .ensures) (judged-refuses _ (Overloaded (d .verdict .given .0 .0)) tt (j .judge .ensures) (d .verdict .given .1)))
 
 pub piece-of-spec : {M : Type 1} → statement M
 piece-of-spec =

@@ -3,9 +3,8 @@ use borrow.Author.Needs.{needs}
 use mathlib.Core.Path.{sym, subst}
 use native.Mathlib.Omega.{arith}
 use Rattle.whole.specs.declared.modes.Piece.{Piece}
-use Rattle.whole.specs.Whole.{by-10}
 use Rattle.whole.specs.Steps.{Comes}
-use Rattle.whole.proofs.Told.{scheduled-late, late-below}
+use Rattle.whole.proofs.Told.{scheduled-refuses, late-below}
 use Rattle.whole.proofs.modes.timed.Statement.{statement}
 use Rattle.whole.proofs.modes.timed.Tie as tie
 
@@ -14,7 +13,7 @@ returns c =
     let d = c .before .before .before in
     let s = d .before .before in
     subst (λ (r : Piece). Comes (s .before .args .mode) (s .before .args .number) (r .answer) (r .part)) (sym (c .refused .ensures))
-    (rw (c .before .number-of .ensures) (by-10 (s .before .pre .1) (s .before .pre .2) (scheduled-late (s .schedule .ensures) (d .timing .given .1))))
+    (rw (c .before .number-of .ensures) (scheduled-refuses _ (s .before .pre .1) (s .before .pre .2) (s .schedule .ensures) (d .timing .given .1)))
 
 returns-2 : tie.Need-returns-2
 returns-2 c =
