@@ -3,7 +3,7 @@ use mathlib.Core.Path.{_≡_, refl, sym, ap, ap₂, subst, _∙_}
 use mathlib.Core.Bool.{cond}
 use mathlib.Core.Logic.{_≢_}
 use mathlib.Core.List.{List}
-use Prim.Native.Nat.{ℕ, suc, _-_, _≤_, _<_}
+use Prim.Native.Nat.{ℕ, _-_, _≤_, _<_}
 use native.Mathlib.Omega.{arith}
 use borrow.Author.Tests.{eq-eqb, ne-eqb}
 use lib.Dec.{T}
@@ -33,7 +33,7 @@ use Rattle.machine.specs.declared.Beginning.the-variants.{Begun, Refused
 use Rattle.machine.specs.declared.Reply.{Reply}
 use Rattle.machine.specs.declared.Reply.the-variants.{Accepted, Refused}
 use Rattle.machine.specs.declared.Answer.{Answer}
-use Rattle.machine.specs.Answers.{seen, asking, machine, Begins, refusing, accepting, Answers, Follows}
+use Rattle.machine.specs.Answers.{seen, asking, machine, Begins, accepting, Answers, Follows}
 use Rattle.machine.proofs.Unique.{same-refusal}
 
 -- what an accepted text leaves in the words is the plan of one table, and demand 3 holds of it
@@ -51,7 +51,7 @@ delayOr d (Accepted e) = e
 delayOr d (Refused r) = d
 
 module _ {t : Table} {w : Whole} {words : List ℕ} (l : Leaves t w words) where
-  -- an answer of the machine is the run's: it leaves the run's machine ..
+  -- an answer of the machine leaves the machine of the run
   pub answers-run : {m : Machine} {a : Answer} (s : Run) (r : Request) → seen m ≡ s .now → Answers words m (r .mode) (tick (r .tick)) a
       → seen (a .machine) ≡ answer (planOf t w) s r .now
   unfolding answer
@@ -61,19 +61,6 @@ module _ {t : Table} {w : Whole} {words : List ℕ} (l : Leaves t w words) where
   answers-run s r e (Answers.accepted k f) =
       rw (eq-eqb (Run.refusal (planOf t w) (s .now) r) 0 (sym (same-refusal k l r e) ∙ f))
       (λ i. Run.next (planOf (leaves-table k l i) (leaves-whole k l i)) (e i) r)
-
-  -- .. and tells the run's delay, or its refusal
-  pub answers-delay : {m : Machine} {a : Answer} (s : Run) (r : Request) → seen m ≡ s .now → Answers words m (r .mode) (tick (r .tick)) a
-      → Run.refusal (planOf t w) (s .now) r ≡ 0 → a .reply ≡ Accepted (tick (Run.delay (planOf t w) (s .now) r))
-  answers-delay s r e (Answers.not-stored n) z = absurd (n (leaves-stored l))
-  answers-delay s r e (Answers.refused k f) z = absurd (omega (arith, f, same-refusal k l r e, z))
-  answers-delay s r e (Answers.accepted k f) z = λ i. Accepted (tick (Run.delay (planOf (leaves-table k l i) (leaves-whole k l i)) (e i) r))
-
-  pub answers-refusal : {m : Machine} {a : Answer} {n : ℕ} (s : Run) (r : Request) → seen m ≡ s .now → Answers words m (r .mode) (tick (r .tick)) a
-      → Run.refusal (planOf t w) (s .now) r ≡ suc n → a ≡ refusing m (suc n)
-  answers-refusal s r e (Answers.not-stored n) z = absurd (n (leaves-stored l))
-  answers-refusal {m} s r e (Answers.refused k f) z = ap (refusing m) (sym f ∙ same-refusal k l r e ∙ z)
-  answers-refusal s r e (Answers.accepted k f) z = absurd (omega (arith, f, same-refusal k l r e, z))
 
   -- answered one after the other, requests lead to the machine of the run
   pub follows-run : {m n : Machine} {rs : List Request} (s : Run) → seen m ≡ s .now → Follows words m rs n → seen n ≡ run (planOf t w) s rs .now

@@ -134,9 +134,9 @@ plans-unique (accepted l p r) (accepted {t = u} m q s) =
 -- one answer to words, and one content of the bytes behind it
 pub prints-unique : {words before k j : List ℕ} {x y : Printing} → Prints words before x k → Prints words before y j → (x ≡ y) × (k ≡ j)
 prints-unique (no-room n) (no-room m) = (refl, refl)
-prints-unique (no-room n) (not-stored l m) = (refl, refl)
+prints-unique (no-room n) (not-stored l m) = absurd (n l)
 prints-unique (no-room n) (printed l q s) = absurd (n l)
-prints-unique (not-stored l n) (no-room m) = (refl, refl)
+prints-unique (not-stored l n) (no-room m) = absurd (m l)
 prints-unique (not-stored l n) (not-stored k m) = (refl, refl)
 prints-unique (not-stored l n) (printed k q s) = absurd (n (leaves-stored q))
 prints-unique (printed l p r) (no-room n) = absurd (n l)

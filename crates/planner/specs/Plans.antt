@@ -37,8 +37,8 @@ pub data Plans (text before : List ℕ) : Answer → List ℕ → Type 0 where
   wrong-length : (length before ≡ WORDS → ⊥) → Plans text before (Refused noPlan) before
   not-read : {r : Refusal} → length before ≡ WORDS → Told text (record { answer = NotRead r; table = emptyTable })
       → Plans text before (Refused r) before
-  not-planned : {t : Table} {r : Refusal} → length before ≡ WORDS → Reads text t → Planning t (record { answer = NotPlanned r; whole = emptyWhole })
-      → Plans text before (Refused r) before
+  not-planned : {t : Table} {r : Refusal} → length before ≡ WORDS → Reads text t
+      → Planning t (record { answer = NotPlanned r; whole = emptyWhole }) → Plans text before (Refused r) before
   accepted : {t : Table} {w : Whole} → length before ≡ WORDS → Reads text t → Planned t w → Plans text before Accepted (wordsOf t w)
 
 -- Words that some accepted table leaves.
