@@ -12,7 +12,7 @@ use Rattle.planner.specs.declared.Answer.the-variants.{Accepted, Refused}
 use Rattle.planner.specs.declared.Printing.{Printing}
 use Rattle.planner.specs.declared.Printing.the-variants.{Printed, Refused as NotPrinted}
 use Rattle.planner.specs.Plans.{Stored, Prints, no-room, not-stored, printed}
-use Rattle.planner.proofs.Leaving.{leaves-table, leaves-whole}
+use Rattle.planner.proofs.Leaving.{leaves-table, leaves-plan}
 use Rattle.planner.proofs.Answering.{plans-unique}
 use Rattle.io.specs.Counts.{Counts}
 use Rattle.console.specs.Says.{PlanOf, Says, refused, planned}
@@ -30,7 +30,7 @@ prints-plan (no-room m) e = let z : _≡_ {A = ℕ} 0 1 = cc in absurd (omega ar
 prints-plan (not-stored l m) e = let z : _≡_ {A = ℕ} 0 1 = cc in absurd (omega arith)
 prints-plan {words} {n = k} (printed {t} {w} {after} {n} l p s) e =
     let same : n ≡ k = cc in
-    subst (λ (m : ℕ). Counts m after × PlanOf words m) same (shows-counts s, record { table = t; whole = w; leaves = p; long = s .long })
+    subst (λ (m : ℕ). Counts m after × PlanOf words m) same (shows-counts s, record { table = t; plan = w; leaves = p; long = s .long })
 
 -- a plan is printed where there is room
 pub stored-prints : {words before after : List ℕ} {x : Printing} {r : Refusal} → Stored words → length before ≡ PRINTED → Prints words before x after → x ≡ NotPrinted r → ⊥
@@ -41,7 +41,7 @@ stored-prints s l (printed k p q) e = let z : _≡_ {A = ℕ} 0 1 = cc in absurd
 -- one number of bytes
 pub plan-of-unique : {words : List ℕ} {n m : ℕ} → PlanOf words n → PlanOf words m → n ≡ m
 plan-of-unique p q =
-    p .long ∙ ap length (ap₂ planText (leaves-table (p .leaves) (q .leaves)) (leaves-whole (p .leaves) (q .leaves))) ∙ sym (q .long)
+    p .long ∙ ap length (ap₂ planText (leaves-table (p .leaves) (q .leaves)) (leaves-plan (p .leaves) (q .leaves))) ∙ sym (q .long)
 
 -- the refusal of an answer
 abbrev refusalOf : Refusal → Answer → Refusal

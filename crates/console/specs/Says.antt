@@ -5,7 +5,7 @@ use Prim.Native.Nat.{ℕ}
 use lib.ListN.{length, replicate}
 use Rattle.terms.specs.declared.refusal.Refusal.{Refusal}
 use Rattle.tables.specs.declared.Table.{Table}
-use Rattle.whole.specs.declared.Whole.{Whole}
+use Rattle.planning.specs.declared.Plan.{Plan}
 use Rattle.layout.specs.Words.{WORDS}
 use Rattle.printer.specs.Printed.{planText, refusalText}
 use Rattle.planner.specs.declared.Answer.the-variants.{Accepted, Refused}
@@ -18,9 +18,9 @@ Long bytes n = n ≡ length bytes
 -- the text of the plan that words hold has n bytes
 pub record PlanOf (words : List ℕ) (n : ℕ) : Type 0 where
   pub table : Table
-  pub whole : Whole
-  pub leaves : Leaves table whole words
-  pub long : Long (planText table whole) n
+  pub plan : Plan
+  pub leaves : Leaves table plan words
+  pub long : Long (planText table plan) n
 
 -- the text that is written for a text has n bytes
 pub data Says (text : List ℕ) (n : ℕ) : Type 0 where

@@ -25,18 +25,18 @@ use Rattle.reader.specs.Told.{Outcome as Rows, rows, refused as rows-refused, F
 use Rattle.reader.proofs.Again.{reads-proper}
 use Rattle.graph.specs.Balance.{firingsOf}
 use Rattle.schedule.proofs.Sound.{at-actor}
-use Rattle.whole.specs.declared.Part.{Part}
-use Rattle.whole.specs.declared.Whole.{Whole}
-use Rattle.whole.specs.declared.Outcome.{Outcome}
-use Rattle.whole.specs.declared.Answer.{Answer as WholeAnswer}
-use Rattle.whole.specs.declared.Answer.the-variants.{Planned as IsPlanned, Refused as NotPlanned}
-use Rattle.whole.specs.Numbers.{modesNumbers}
-use Rattle.whole.specs.Whole.{ModeRefused, ModePlanned, Planned, Planning}
-use Rattle.whole.proofs.Told.{judged-sound, scheduled-times}
-use Rattle.whole.proofs.Exists.{planning-exists}
-use Rattle.run.specs.Plan.{Plan}
+use Rattle.planning.specs.declared.ModePlan.{ModePlan}
+use Rattle.planning.specs.declared.Plan.{Plan}
+use Rattle.planning.specs.declared.Outcome.{Outcome}
+use Rattle.planning.specs.declared.Answer.{Answer as PlanningAnswer}
+use Rattle.planning.specs.declared.Answer.the-variants.{Planned as IsPlanned, Refused as NotPlanned}
+use Rattle.planning.specs.Numbers.{modesNumbers}
+use Rattle.planning.specs.Plan.{ModeRefused, ModePlanned, Planned, Planning}
+use Rattle.planning.proofs.Told.{judged-sound, scheduled-times}
+use Rattle.planning.proofs.Exists.{planning-exists}
+use Rattle.run.specs.Plan.{RunPlan}
 use Rattle.run.specs.Machine as Run
-use Rattle.planned.specs.Plan.{isListed, planOf}
+use Rattle.machine.specs.Plan.{isListed, planOf}
 use Rattle.layout.specs.Words.{WORDS, wordsOf}
 use Rattle.planner.specs.declared.Answer.{Answer as TableAnswer}
 use Rattle.planner.specs.declared.Answer.the-variants as Table′
@@ -93,14 +93,14 @@ mode-number (ModeRefused.by-9 b o) = (omega arith, omega arith)
 mode-number (ModeRefused.by-10 b o s l) = (omega arith, omega arith)
 
 -- the refusal of a table's modes is that of one mode
-abbrev wholeRefusal : WholeAnswer → Refusal → Refusal
-wholeRefusal IsPlanned r = r
-wholeRefusal (NotPlanned s) r = s
+abbrev modesRefusal : PlanningAnswer → Refusal → Refusal
+modesRefusal IsPlanned r = r
+modesRefusal (NotPlanned s) r = s
 
 mode-refused : {text : List ℕ} {t : Table} {x : Outcome} {r : Refusal} → Reads text t → Planning t x → x .answer ≡ NotPlanned r
     → TableRefused text r × ((1 ≤ r .number) × (r .number ≤ 10))
 mode-refused {text} {r = r} reads (Planning.refused {r = s} listed lower refused) e =
-    subst (λ (r : Refusal). TableRefused text r × ((1 ≤ r .number) × (r .number ≤ 10))) (ap (λ (a : WholeAnswer). wholeRefusal a s) e)
+    subst (λ (r : Refusal). TableRefused text r × ((1 ≤ r .number) × (r .number ≤ 10))) (ap (λ (a : PlanningAnswer). modesRefusal a s) e)
     (TableRefused.at-mode reads listed lower refused, mode-number refused)
 mode-refused reads (Planning.planned p) e = let z : _≡_ {A = ℕ} 0 1 = cc in absurd (omega arith)
 
@@ -123,7 +123,7 @@ either : (b : Bool) (n k : ℕ) → 11 ≤ n → n ≤ 16 → OfRequest k → Of
 either true n k p q r = inr (p, q)
 either false n k p q r = r
 
-of-request : (p : Plan) (m : Run.Machine) (r : Run.Request) → OfRequest (Run.refusal p m r)
+of-request : (p : RunPlan) (m : Run.Machine) (r : Run.Request) → OfRequest (Run.refusal p m r)
 unfolding Run.refusal
 of-request p m r =
     either (not (p .listed (m .mode)) || ltb (m .ended) (m .started)) 16 _ (omega arith) (omega arith)
@@ -152,7 +152,7 @@ demand-1 =
       one-request = answers-unique;
     }
 
-mode-right : {m : Mode} {p : Part} → ModePlanned m p → ModeRight m p
+mode-right : {m : Mode} {p : ModePlan} → ModePlanned m p → ModeRight m p
 mode-right {m} {p} q =
     let (x, n, numbers, light) = judged-sound (q .judged) (q .sound) in
     let (s, starts, prompt, times) = scheduled-times (q .scheduled) (q .on-time) in
@@ -175,7 +175,7 @@ mode-right {m} {p} q =
       tokens = times .tokens;
     })
 
-right : {t : Table} {w : Whole} → Planned t w → Right t w
+right : {t : Table} {w : Plan} → Planned t w → Right t w
 right p =
     record {
       modes = λ k l. mode-right (p .part k (l .0) .listed l);
@@ -183,7 +183,7 @@ right p =
     }
 
 left-right : {text before words : List ℕ} {a : TableAnswer} → Plans text before a words → a ≡ Table′.Accepted
-    → (t : Table) × (w : Whole) × Reads text t × (words ≡ wordsOf t w) × Right t w
+    → (t : Table) × (w : Plan) × Reads text t × (words ≡ wordsOf t w) × Right t w
 left-right (Plans.wrong-length n) e = let z : _≡_ {A = ℕ} 0 1 = cc in absurd (omega arith)
 left-right (Plans.not-read l r) e = let z : _≡_ {A = ℕ} 0 1 = cc in absurd (omega arith)
 left-right (Plans.not-planned l r p) e = let z : _≡_ {A = ℕ} 0 1 = cc in absurd (omega arith)
@@ -203,10 +203,10 @@ only-then {text} l (Plans.not-read {r = s} k told) e = subst (TableRefused text)
 only-then {text} l (Plans.not-planned {r = s} k reads p) e = subst (TableRefused text) (ap (refusalOr s) e) (mode-refused reads p refl .0)
 only-then l (Plans.accepted k r p) e = let z : _≡_ {A = ℕ} 0 1 = cc in absurd (omega arith)
 
-answered : {text : List ℕ} {t : Table} → Reads text t → ((w : Whole) × Planned t w) ⊎ ((r : Refusal) × TableRefused text r)
+answered : {text : List ℕ} {t : Table} → Reads text t → ((w : Plan) × Planned t w) ⊎ ((r : Refusal) × TableRefused text r)
 answered {text} {t} reads = go (planning-exists t (reads-proper text t reads) .1)
   where
-    go : {x : Outcome} → Planning t x → ((w : Whole) × Planned t w) ⊎ ((r : Refusal) × TableRefused text r)
+    go : {x : Outcome} → Planning t x → ((w : Plan) × Planned t w) ⊎ ((r : Refusal) × TableRefused text r)
     go (Planning.refused listed lower refused) = inr (_, TableRefused.at-mode reads listed lower refused)
     go (Planning.planned p) = inl (_, p)
 

@@ -27,14 +27,14 @@ use Rattle.graph.specs.Load.{Overloaded}
 use Rattle.schedule.specs.Starts.{Starts, startupOf, Late}
 use Rattle.schedule.specs.Scheduled.{SizeOn, ofChannels, tokensOn}
 use Rattle.change.specs.Change.{Changes}
-use Rattle.whole.specs.declared.Part.{Part}
-use Rattle.whole.specs.declared.Whole.{Whole}
-use Rattle.whole.specs.declared.Outcome.{Outcome}
-use Rattle.whole.specs.Numbers.{modesNumbers}
-use Rattle.whole.specs.Whole.{partAt, changeAt, timesOf, Listed, Leads, ModePlanned, ModeRefused, Planned, Planning}
+use Rattle.planning.specs.declared.ModePlan.{ModePlan}
+use Rattle.planning.specs.declared.Plan.{Plan}
+use Rattle.planning.specs.declared.Outcome.{Outcome}
+use Rattle.planning.specs.Numbers.{modesNumbers}
+use Rattle.planning.specs.Plan.{partAt, changeAt, timesOf, Listed, Leads, ModePlanned, ModeRefused, Planned, Planning}
 use Rattle.run.specs.Machine as Run
 use Rattle.run.specs.Demand as Run′
-use Rattle.planned.specs.Plan.{isListed, planOf}
+use Rattle.machine.specs.Plan.{isListed, planOf}
 use Rattle.layout.specs.Words.{WORDS, wordsOf}
 use Rattle.planner.specs.declared.Answer as planner
 use Rattle.planner.specs.declared.Answer.the-variants as Table′
@@ -80,7 +80,7 @@ pub record Demand1 : Type 0 where
 -- "Firing counts, periods, starts, sizes, offsets, delays are those of document 01's rules; refusals are given exactly when those rules say so."
 
 -- what is planned of a mode is what the rules say: with the smallest cycle counts that balance it, and the least starts of its actors
-pub record ModeRight (m : Mode) (p : Part) : Type 0 where
+pub record ModeRight (m : Mode) (p : ModePlan) : Type 0 where
   pub ends : Ends m (p .source) (p .sink)
   pub counts : ℕ → ℕ
   pub smallest : Smallest m counts
@@ -98,28 +98,28 @@ pub record ModeRight (m : Mode) (p : Part) : Type 0 where
   pub tokens : p .tokens ≡ ofChannels m (tokensOn m (p .firings)) (token 0)
 
 -- and of every mode and every change of a table
-pub record Right (t : Table) (w : Whole) : Type 0 where
+pub record Right (t : Table) (w : Plan) : Type 0 where
   pub modes : (k : ℕ) → Listed t k → ModeRight (modeAt t k) (partAt w k)
   pub changes : (k l : ℕ) → Leads t k l → Changes (timesOf (modeAt t k) (partAt w k)) (timesOf (modeAt t l) (partAt w l)) (changeAt w k l)
 
 -- when a table is refused, in a buffer of the one length: the first refusal of its length and its rows; else that of its lowest mode that is refused
 pub data TableRefused (text : List ℕ) : Refusal → Type 0 where
   at-row : {r : Refusal} → Told text (record { answer = NotRead r; table = emptyTable }) → TableRefused text r
-  at-mode : {t : Table} {k : ℕ} {r : Refusal} → Reads text t → Listed t k → ((l : ℕ) → l < k → Listed t l → (p : Part) × ModePlanned (modeAt t l) p)
+  at-mode : {t : Table} {k : ℕ} {r : Refusal} → Reads text t → Listed t k → ((l : ℕ) → l < k → Listed t l → (p : ModePlan) × ModePlanned (modeAt t l) p)
       → ModeRefused (modeAt t k) (numberOf k) r → TableRefused text r
 
 pub record Demand2 : Type 0 where
   -- an accepted table leaves a plan whose numbers are right ..
   pub right : {text before words : List ℕ} → Plans text before Table′.Accepted words
-      → (t : Table) × (w : Whole) × Reads text t × (words ≡ wordsOf t w) × Right t w
+      → (t : Table) × (w : Plan) × Reads text t × (words ≡ wordsOf t w) × Right t w
   -- .. and a table that has a plan is accepted
-  pub accepted : {text before : List ℕ} {t : Table} {w : Whole} → length before ≡ WORDS → Reads text t → Planned t w → Plans text before Table′.Accepted (wordsOf t w)
+  pub accepted : {text before : List ℕ} {t : Table} {w : Plan} → length before ≡ WORDS → Reads text t → Planned t w → Plans text before Table′.Accepted (wordsOf t w)
   -- a table is refused when the rules say so, and only then; 15 where the buffer has another length
   pub refused : {text before : List ℕ} {r : Refusal} → length before ≡ WORDS → TableRefused text r → Plans text before (Table′.Refused r) before
   pub only-then : {text before after : List ℕ} {r : Refusal} → length before ≡ WORDS → Plans text before (Table′.Refused r) after → TableRefused text r
   pub no-room : {text before : List ℕ} → (length before ≡ WORDS → ⊥) → Plans text before (Table′.Refused noPlan) before
   -- the rules leave no table that is read without an answer: it has a plan, or it is refused
-  pub answered : {text : List ℕ} {t : Table} → Reads text t → ((w : Whole) × Planned t w) ⊎ ((r : Refusal) × TableRefused text r)
+  pub answered : {text : List ℕ} {t : Table} → Reads text t → ((w : Plan) × Planned t w) ⊎ ((r : Refusal) × TableRefused text r)
   -- the five numbers of an answer are those of what is answered to its text, where that is refused, and else those of what is answered to its modes
   pub text-numbers : {text before after : List ℕ} {x : Reading} {a : planner.Answer} → length before ≡ WORDS → Told text x → (x .answer ≡ IsRead → ⊥) → Plans text before a after
       → planNumbers a ≡ readNumbers (x .answer)
@@ -127,15 +127,15 @@ pub record Demand2 : Type 0 where
       → Plans text before a after → planNumbers a ≡ modesNumbers (x .answer)
   -- a start is refused by 15 where no accepted table leaves the words, then by 11 where the mode that is meant is not in the plan; else a machine begins in it
   pub start-15 : {words : List ℕ} {mode : ℕ} {b : Beginning} → (Stored words → ⊥) → Begins words mode b → b ≡ Start′.Refused (refusalOf 15)
-  pub start-11 : {t : Table} {w : Whole} {words : List ℕ} {mode k : ℕ} {b : Beginning} → Leaves t w words → Meant t mode k → (T (isListed t k) → ⊥) → Begins words mode b
+  pub start-11 : {t : Table} {w : Plan} {words : List ℕ} {mode k : ℕ} {b : Beginning} → Leaves t w words → Meant t mode k → (T (isListed t k) → ⊥) → Begins words mode b
       → b ≡ Start′.Refused (refusalOf 11)
-  pub start-begun : {t : Table} {w : Whole} {words : List ℕ} {mode k : ℕ} {b : Beginning} → Leaves t w words → Meant t mode k → T (isListed t k) → Begins words mode b
+  pub start-begun : {t : Table} {w : Plan} {words : List ℕ} {mode k : ℕ} {b : Beginning} → Leaves t w words → Meant t mode k → T (isListed t k) → Begins words mode b
       → b ≡ Start′.Begun (machine (Run.begin (planOf t w) k .now))
   -- a request is refused by 15 likewise; else it is refused, or accepted with its delay and the machine after it, by the rules of the table's plan
   pub request-15 : {words : List ℕ} {m : Machine} {mode : ℕ} {clock : Tick} {a : Answer} → (Stored words → ⊥) → Answers words m mode clock a → a ≡ refusing m 15
-  pub request-refused : {t : Table} {w : Whole} {words : List ℕ} {m : Machine} {mode n : ℕ} {clock : Tick} {a : Answer} → Leaves t w words
+  pub request-refused : {t : Table} {w : Plan} {words : List ℕ} {m : Machine} {mode n : ℕ} {clock : Tick} {a : Answer} → Leaves t w words
       → Run.refusal (planOf t w) (seen m) (asking mode clock) ≡ suc n → Answers words m mode clock a → a ≡ refusing m (suc n)
-  pub request-accepted : {t : Table} {w : Whole} {words : List ℕ} {m : Machine} {mode : ℕ} {clock : Tick} {a : Answer} → Leaves t w words
+  pub request-accepted : {t : Table} {w : Plan} {words : List ℕ} {m : Machine} {mode : ℕ} {clock : Tick} {a : Answer} → Leaves t w words
       → Run.refusal (planOf t w) (seen m) (asking mode clock) ≡ 0 → Answers words m mode clock a → a ≡ accepting (planOf t w) m mode clock
 
 -- ── Demand 3 ──
@@ -144,7 +144,7 @@ pub record Demand2 : Type 0 where
 -- case, some request reaches it, and it depends only on the two modes and the request's place in the old iteration."
 
 -- of the table t and its plan w that leave the words
-pub record Runs (t : Table) (w : Whole) (words : List ℕ) : Type 0 where
+pub record Runs (t : Table) (w : Plan) (words : List ℕ) : Type 0 where
   -- of every run of the plan all of this holds (`Demand3` of run's specs/Demand.antt) ..
   pub holds : Run′.Demand3 (planOf t w)
   -- .. and a machine that begins, and answers any requests one after the other, is the machine of such a run
@@ -159,4 +159,4 @@ pub record Runs (t : Table) (w : Whole) (words : List ℕ) : Type 0 where
 
 abbrev pub Demand3 : Type 0
 Demand3 = (text before words : List ℕ) → Plans text before Table′.Accepted words
-    → (t : Table) × (w : Whole) × Leaves t w words × Runs t w words
+    → (t : Table) × (w : Plan) × Leaves t w words × Runs t w words

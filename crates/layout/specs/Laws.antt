@@ -16,9 +16,9 @@ use Rattle.tables.specs.declared.Mode.{Mode}
 use Rattle.tables.specs.declared.Table.{Table}
 use Rattle.tables.specs.Shape.{noActor, noChannel, noMode, channelAt, modeAt}
 use Rattle.tables.specs.Proper.{ProperMode, ProperTable}
-use Rattle.whole.specs.declared.Part.{Part}
-use Rattle.whole.specs.declared.Whole.{Whole}
-use Rattle.whole.specs.Whole.{partAt}
+use Rattle.planning.specs.declared.ModePlan.{ModePlan}
+use Rattle.planning.specs.declared.Plan.{Plan}
+use Rattle.planning.specs.Plan.{partAt}
 use Rattle.layout.specs.Joined.{joined, stretch, part, length-joined, part-joined, joined-part}
 use Rattle.layout.specs.Words.{CHANGES, HEAD-WORDS, ACTOR-WORDS, CHANNEL-WORDS, MODE-WORDS, CHANGE-WORDS, WORDS, headWords, rateWords, channelWords, actorWordsAt, channelWordsAt, modeWords, modeWordsAt, changeWordsAt, modesWords, changesWords, wordsOf}
 use Rattle.layout.specs.Read.{actorOf, ratesOf, channelOf, actorsOf, channelsOf, modeOf, graphOf}
@@ -28,32 +28,32 @@ pub length-channel : (c : Channel) (size tokens : Token) → length (channelWord
 unfolding tab
 length-channel c size tokens = refl
 
-pub length-channel-at : (m : Mode) (p : Part) (k : ℕ) → length (channelWordsAt m p k) ≡ CHANNEL-WORDS
+pub length-channel-at : (m : Mode) (p : ModePlan) (k : ℕ) → length (channelWordsAt m p k) ≡ CHANNEL-WORDS
 length-channel-at m p k = length-channel (channelAt m k) (getD (p .sizes) k (token 0)) (getD (p .tokens) k (token 0))
 
-pub length-actors : (m : Mode) (p : Part) → length (joined ACTORS (actorWordsAt m p)) ≡ ACTOR-WORDS * ACTORS
+pub length-actors : (m : Mode) (p : ModePlan) → length (joined ACTORS (actorWordsAt m p)) ≡ ACTOR-WORDS * ACTORS
 length-actors m p = length-joined ACTOR-WORDS (actorWordsAt m p) (λ i. refl) ACTORS
 
-pub length-channels : (m : Mode) (p : Part) → length (joined CHANNELS (channelWordsAt m p)) ≡ CHANNEL-WORDS * CHANNELS
+pub length-channels : (m : Mode) (p : ModePlan) → length (joined CHANNELS (channelWordsAt m p)) ≡ CHANNEL-WORDS * CHANNELS
 length-channels m p = length-joined CHANNEL-WORDS (channelWordsAt m p) (length-channel-at m p) CHANNELS
 
-pub length-mode : (m : Mode) (p : Part) → length (modeWords m p) ≡ MODE-WORDS
+pub length-mode : (m : Mode) (p : ModePlan) → length (modeWords m p) ≡ MODE-WORDS
 unfolding modeWords
 length-mode m p =
     length-append (headWords m p) (joined ACTORS (actorWordsAt m p) ++ joined CHANNELS (channelWordsAt m p))
     ∙ ap (λ (n : ℕ). HEAD-WORDS + n) (length-append (joined ACTORS (actorWordsAt m p)) (joined CHANNELS (channelWordsAt m p)) ∙ ap₂ _+_ (length-actors m p) (length-channels m p))
 
-pub length-mode-at : (t : Table) (w : Whole) (m : ℕ) → length (modeWordsAt t w m) ≡ MODE-WORDS
+pub length-mode-at : (t : Table) (w : Plan) (m : ℕ) → length (modeWordsAt t w m) ≡ MODE-WORDS
 length-mode-at t w m = length-mode (modeAt t m) (partAt w m)
 
-pub length-modes : (t : Table) (w : Whole) → length (modesWords t w) ≡ MODE-WORDS * MODES
+pub length-modes : (t : Table) (w : Plan) → length (modesWords t w) ≡ MODE-WORDS * MODES
 length-modes t w = length-joined MODE-WORDS (modeWordsAt t w) (length-mode-at t w) MODES
 
-pub length-changes : (w : Whole) → length (changesWords w) ≡ CHANGE-WORDS * CHANGES
+pub length-changes : (w : Plan) → length (changesWords w) ≡ CHANGE-WORDS * CHANGES
 length-changes w = length-joined CHANGE-WORDS (changeWordsAt w) (λ k. refl) CHANGES
 
 -- there are always as many words as the buffer has
-pub length-words : (t : Table) (w : Whole) → length (wordsOf t w) ≡ WORDS
+pub length-words : (t : Table) (w : Plan) → length (wordsOf t w) ≡ WORDS
 unfolding wordsOf
 length-words t w = length-append (modesWords t w) (changesWords w) ∙ ap₂ _+_ (length-modes t w) (length-changes w)
 
@@ -91,7 +91,7 @@ module _ (m : Mode) (h : ProperMode m) where
       go (no g) = rw (h .no-channel k l (omega arith)) (empty-small, empty-small)
 
   -- a mode is read back from its words
-  pub mode-back : (p : Part) → modeOf (modeWords m p) ≡ m
+  pub mode-back : (p : ModePlan) → modeOf (modeWords m p) ≡ m
   unfolding modeOf modeWords
   mode-back p =
       let acts = joined ACTORS (actorWordsAt m p) in
@@ -103,19 +103,19 @@ module _ (m : Mode) (h : ProperMode m) where
       let e : m .active % 2 ^ ACTORS ≡ m .active = mod-eq-of-lt (h .active) in
       simp (a, b, e)
     where
-      actors-back : (p : Part) → actorsOf (joined ACTORS (actorWordsAt m p)) ≡ m .actors
+      actors-back : (p : ModePlan) → actorsOf (joined ACTORS (actorWordsAt m p)) ≡ m .actors
       actors-back p =
           sym (is-tab ACTORS _ (m .actors) noActor (h .actors-long)
           (λ i l. sym (ap actorOf (joined-part ACTOR-WORDS (actorWordsAt m p) (λ j. refl) ACTORS i l))))
 
-      channels-back : (p : Part) → channelsOf (joined CHANNELS (channelWordsAt m p)) ≡ m .channels
+      channels-back : (p : ModePlan) → channelsOf (joined CHANNELS (channelWordsAt m p)) ≡ m .channels
       channels-back p =
           sym (is-tab CHANNELS _ (m .channels) noChannel (h .channels-long)
           (λ k l. sym (ap channelOf (joined-part CHANNEL-WORDS (channelWordsAt m p) (length-channel-at m p) CHANNELS k l)
           ∙ channel-back (channelAt m k) (getD (p .sizes) k (token 0)) (getD (p .tokens) k (token 0)) (channel-small k l .0) (channel-small k l .1))))
 
 -- a table is read back from the words of its plan
-pub graph-back : (t : Table) (w : Whole) → ProperTable t → graphOf (wordsOf t w) ≡ t
+pub graph-back : (t : Table) (w : Plan) → ProperTable t → graphOf (wordsOf t w) ≡ t
 unfolding graphOf wordsOf
 graph-back t w h =
     ap (λ (l : List Mode). let r : Table = record { modes = l } in r)

@@ -16,10 +16,10 @@ use Rattle.tables.specs.declared.Mode.{Mode}
 use Rattle.tables.specs.declared.Table.{Table}
 use Rattle.tables.specs.Shape.{actorAt, channelAt, modeAt}
 use Rattle.change.specs.declared.Timing.{Timing}
-use Rattle.whole.specs.declared.Part.{Part}
-use Rattle.whole.specs.declared.Whole.{Whole}
-use Rattle.whole.specs.Nothing.{noTiming}
-use Rattle.whole.specs.Whole.{partAt}
+use Rattle.planning.specs.declared.ModePlan.{ModePlan}
+use Rattle.planning.specs.declared.Plan.{Plan}
+use Rattle.planning.specs.Nothing.{noTiming}
+use Rattle.planning.specs.Plan.{partAt}
 use Rattle.layout.specs.Joined.{joined}
 
 -- the number of ordered pairs of modes
@@ -45,11 +45,11 @@ CHANGE-WORDS = 3
 abbrev pub WORDS : ℕ
 WORDS = MODE-WORDS * MODES + CHANGE-WORDS * CHANGES
 
-abbrev pub timingAt : Whole → ℕ → Timing
+abbrev pub timingAt : Plan → ℕ → Timing
 timingAt w k = getD (w .changes) k noTiming
 
 -- a mode: its active actors, the number of its channels, its iteration, and the places of its source and its sink
-abbrev pub headWords : Mode → Part → List ℕ
+abbrev pub headWords : Mode → ModePlan → List ℕ
 headWords m p = m .active ∷ m .count ∷ p .iteration .0 ∷ p .source ∷ p .sink ∷ []
 
 -- an actor: phases, wcet, processor, firings in an iteration, period, start
@@ -67,15 +67,15 @@ channelWords c size tokens =
     c .from ∷ c .to ∷ (rateWords (c .production) ++ (rateWords (c .consumption) ++ (size .0 ∷ tokens .0 ∷ [])))
 
 -- actor i and channel k of a mode
-abbrev pub actorWordsAt : Mode → Part → ℕ → List ℕ
+abbrev pub actorWordsAt : Mode → ModePlan → ℕ → List ℕ
 actorWordsAt m p i =
     actorWords (actorAt m i) (getD (p .firings) i (firing 0)) (getD (p .periods) i (tick 0)) (getD (p .starts) i (tick 0))
 
-abbrev pub channelWordsAt : Mode → Part → ℕ → List ℕ
+abbrev pub channelWordsAt : Mode → ModePlan → ℕ → List ℕ
 channelWordsAt m p k = channelWords (channelAt m k) (getD (p .sizes) k (token 0)) (getD (p .tokens) k (token 0))
 
 -- a mode: its own numbers, its actors, its channels
-unfoldable pub modeWords : Mode → Part → List ℕ
+unfoldable pub modeWords : Mode → ModePlan → List ℕ
 modeWords m p = headWords m p ++ (joined ACTORS (actorWordsAt m p) ++ joined CHANNELS (channelWordsAt m p))
 
 -- a change: overlap, offset, worst delay
@@ -83,18 +83,18 @@ abbrev pub changeWords : Timing → List ℕ
 changeWords t = t .overlap .0 ∷ t .offset .0 ∷ t .worst .0 ∷ []
 
 -- mode m of a plan, and the change at place k; all modes, and all changes
-abbrev pub modeWordsAt : Table → Whole → ℕ → List ℕ
+abbrev pub modeWordsAt : Table → Plan → ℕ → List ℕ
 modeWordsAt t w m = modeWords (modeAt t m) (partAt w m)
 
-abbrev pub changeWordsAt : Whole → ℕ → List ℕ
+abbrev pub changeWordsAt : Plan → ℕ → List ℕ
 changeWordsAt w k = changeWords (timingAt w k)
 
-abbrev pub modesWords : Table → Whole → List ℕ
+abbrev pub modesWords : Table → Plan → List ℕ
 modesWords t w = joined MODES (modeWordsAt t w)
 
-abbrev pub changesWords : Whole → List ℕ
+abbrev pub changesWords : Plan → List ℕ
 changesWords w = joined CHANGES (changeWordsAt w)
 
 -- all words of the plan of a table
-unfoldable pub wordsOf : Table → Whole → List ℕ
+unfoldable pub wordsOf : Table → Plan → List ℕ
 wordsOf t w = modesWords t w ++ changesWords w

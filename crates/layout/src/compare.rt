@@ -1,12 +1,12 @@
 // A buffer is compared with what would be written, part by part.
-use crate::store;
 use crate::store::CHANGES_WORDS;
 use crate::store::MODE_WORDS;
+use crate::store;
+use planning::ModePlan;
+use planning::Plan;
 use tables::Mode;
 use tables::Table;
 use units::limits::MODES;
-use whole::Part;
-use whole::Whole;
 ghost use mathlib.Core.Path.{_≡_};
 ghost use Prim.Native.Nat.{_*_};
 ghost use lib.ListN.{length};
@@ -27,7 +27,7 @@ fn same(a: &[u64], b: &[u64]) -> bool
     true
 }
 
-fn mode_holds(mode: Mode, part: Part, words: &[u64]) -> bool
+fn mode_holds(mode: Mode, part: ModePlan, words: &[u64]) -> bool
     requires { ⌜ length (now words) ≡ MODE-WORDS ⌝ }
     ensures { λ r. ⌜ Decides (now (words .entry) ≡ modeWords mode part) r ⌝ }
 {
@@ -36,15 +36,15 @@ fn mode_holds(mode: Mode, part: Part, words: &[u64]) -> bool
     same(words, &fresh)
 }
 
-pub(crate) fn modes_hold(table: Table, whole: Whole, words: &[u64]) -> bool
+pub(crate) fn modes_hold(table: Table, plan: Plan, words: &[u64]) -> bool
     requires { ⌜ length (now words) ≡ MODE-WORDS * MODES ⌝ }
-    ensures { λ r. ⌜ Decides (now (words .entry) ≡ modesWords table whole) r ⌝ }
+    ensures { λ r. ⌜ Decides (now (words .entry) ≡ modesWords table plan) r ⌝ }
 {
     for m in 0..MODES {
         let a = MODE_WORDS * m;
         let e = a + MODE_WORDS;
         let mode = table.modes[m];
-        let part = whole.parts[m];
+        let part = plan.parts[m];
         if !mode_holds(mode, part, &words[a..e]) {
             return false;
         }
@@ -52,11 +52,11 @@ pub(crate) fn modes_hold(table: Table, whole: Whole, words: &[u64]) -> bool
     true
 }
 
-pub(crate) fn changes_hold(whole: Whole, words: &[u64]) -> bool
+pub(crate) fn changes_hold(plan: Plan, words: &[u64]) -> bool
     requires { ⌜ length (now words) ≡ CHANGE-WORDS * CHANGES ⌝ }
-    ensures { λ r. ⌜ Decides (now (words .entry) ≡ changesWords whole) r ⌝ }
+    ensures { λ r. ⌜ Decides (now (words .entry) ≡ changesWords plan) r ⌝ }
 {
     let mut fresh = [0u64; CHANGES_WORDS];
-    store::put_changes(whole, &mut fresh);
+    store::put_changes(plan, &mut fresh);
     same(words, &fresh)
 }

@@ -3,9 +3,9 @@ mod compare;
 mod load;
 mod store;
 
+use planning::Plan;
 use tables::Table;
 use units::limits::MODES;
-use whole::Whole;
 ghost use mathlib.Core.Path.{_≡_};
 ghost use lib.ListN.{length};
 ghost use Rattle.numbers.specs.Decides.{Decides};
@@ -19,25 +19,25 @@ pub const WORDS: usize = MODES_END + store::CHANGES_WORDS;
 const MODES_END: usize = store::MODE_WORDS * MODES;
 
 // Writes the plan of a table.
-pub fn write(table: Table, whole: Whole, words: &mut [u64])
+pub fn write(table: Table, plan: Plan, words: &mut [u64])
     requires { ⌜ length (now words) ≡ WORDS ⌝ }
-    ensures { λ _. ⌜ now (words .exit) ≡ wordsOf table whole ⌝ }
+    ensures { λ _. ⌜ now (words .exit) ≡ wordsOf table plan ⌝ }
 {
-    store::put_modes(table, whole, &mut words[0..MODES_END]);
-    store::put_changes(whole, &mut words[MODES_END..WORDS]);
+    store::put_modes(table, plan, &mut words[0..MODES_END]);
+    store::put_changes(plan, &mut words[MODES_END..WORDS]);
 }
 
 // Whether a buffer is what the plan of a table leaves.
-pub fn holds(table: Table, whole: Whole, words: &[u64]) -> bool
-    ensures { λ r. ⌜ Decides (now (words .entry) ≡ wordsOf table whole) r ⌝ }
+pub fn holds(table: Table, plan: Plan, words: &[u64]) -> bool
+    ensures { λ r. ⌜ Decides (now (words .entry) ≡ wordsOf table plan) r ⌝ }
 {
     if words.len() != WORDS {
         return false;
     }
-    if !compare::modes_hold(table, whole, &words[0..MODES_END]) {
+    if !compare::modes_hold(table, plan, &words[0..MODES_END]) {
         return false;
     }
-    compare::changes_hold(whole, &words[MODES_END..WORDS])
+    compare::changes_hold(plan, &words[MODES_END..WORDS])
 }
 
 // The table that a buffer holds.

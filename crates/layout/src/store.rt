@@ -1,5 +1,7 @@
 // The words are written: each function is lent the part that it fills.
 use change::Timing;
+use planning::ModePlan;
+use planning::Plan;
 use tables::Actor;
 use tables::Channel;
 use tables::Mode;
@@ -11,8 +13,6 @@ use units::limits::ACTORS;
 use units::limits::CHANNELS;
 use units::limits::MODES;
 use units::limits::PHASES;
-use whole::Part;
-use whole::Whole;
 ghost use mathlib.Core.Path.{_≡_};
 ghost use Prim.Native.Nat.{_*_};
 ghost use lib.ListN.{length};
@@ -47,7 +47,7 @@ const CHANGES: usize = MODES * MODES;
 
 pub(crate) const CHANGES_WORDS: usize = CHANGE_WORDS * CHANGES;
 
-fn put_head(mode: Mode, part: Part, words: &mut [u64])
+fn put_head(mode: Mode, part: ModePlan, words: &mut [u64])
     requires { ⌜ length (now words) ≡ HEAD-WORDS ⌝ }
     ensures { λ _. ⌜ now (words .exit) ≡ headWords mode part ⌝ }
 {
@@ -72,7 +72,7 @@ fn put_actor(actor: Actor, firings: Firing, period: Tick, start: Tick, words: &m
     words[5] = start.ticks();
 }
 
-fn put_actors(mode: Mode, part: Part, words: &mut [u64])
+fn put_actors(mode: Mode, part: ModePlan, words: &mut [u64])
     requires { ⌜ length (now words) ≡ ACTOR-WORDS * ACTORS ⌝ }
     ensures { λ _. ⌜ now (words .exit) ≡ joined ACTORS (actorWordsAt mode part) ⌝ }
 {
@@ -110,7 +110,7 @@ fn put_channel(channel: Channel, size: Token, tokens: Token, words: &mut [u64])
     words[TOKENS_AT] = tokens.tokens();
 }
 
-fn put_channels(mode: Mode, part: Part, words: &mut [u64])
+fn put_channels(mode: Mode, part: ModePlan, words: &mut [u64])
     requires { ⌜ length (now words) ≡ CHANNEL-WORDS * CHANNELS ⌝ }
     ensures { λ _. ⌜ now (words .exit) ≡ joined CHANNELS (channelWordsAt mode part) ⌝ }
 {
@@ -124,7 +124,7 @@ fn put_channels(mode: Mode, part: Part, words: &mut [u64])
     }
 }
 
-pub(crate) fn put_mode(mode: Mode, part: Part, words: &mut [u64])
+pub(crate) fn put_mode(mode: Mode, part: ModePlan, words: &mut [u64])
     requires { ⌜ length (now words) ≡ MODE-WORDS ⌝ }
     ensures { λ _. ⌜ now (words .exit) ≡ modeWords mode part ⌝ }
 {
@@ -133,15 +133,15 @@ pub(crate) fn put_mode(mode: Mode, part: Part, words: &mut [u64])
     put_channels(mode, part, &mut words[CHANNELS_AT..MODE_WORDS]);
 }
 
-pub(crate) fn put_modes(table: Table, whole: Whole, words: &mut [u64])
+pub(crate) fn put_modes(table: Table, plan: Plan, words: &mut [u64])
     requires { ⌜ length (now words) ≡ MODE-WORDS * MODES ⌝ }
-    ensures { λ _. ⌜ now (words .exit) ≡ modesWords table whole ⌝ }
+    ensures { λ _. ⌜ now (words .exit) ≡ modesWords table plan ⌝ }
 {
     for m in 0..MODES {
         let a = MODE_WORDS * m;
         let e = a + MODE_WORDS;
         let mode = table.modes[m];
-        let part = whole.parts[m];
+        let part = plan.parts[m];
         put_mode(mode, part, &mut words[a..e]);
     }
 }
@@ -158,14 +158,14 @@ fn put_change(timing: Timing, words: &mut [u64])
     words[2] = worst.ticks();
 }
 
-pub(crate) fn put_changes(whole: Whole, words: &mut [u64])
+pub(crate) fn put_changes(plan: Plan, words: &mut [u64])
     requires { ⌜ length (now words) ≡ CHANGE-WORDS * CHANGES ⌝ }
-    ensures { λ _. ⌜ now (words .exit) ≡ changesWords whole ⌝ }
+    ensures { λ _. ⌜ now (words .exit) ≡ changesWords plan ⌝ }
 {
     for k in 0..CHANGES {
         let a = CHANGE_WORDS * k;
         let e = a + CHANGE_WORDS;
-        let timing = whole.changes[k];
+        let timing = plan.changes[k];
         put_change(timing, &mut words[a..e]);
     }
 }

@@ -11,8 +11,8 @@ use Rattle.numbers.specs.Every.{Every}
 use Rattle.units.specs.declared.Tick.{Tick}
 use Rattle.units.specs.Ticks.{tick}
 use Rattle.tables.specs.declared.Table.{Table}
-use Rattle.whole.specs.declared.Whole.{Whole}
-use Rattle.whole.specs.Whole.{changeAt}
+use Rattle.planning.specs.declared.Plan.{Plan}
+use Rattle.planning.specs.Plan.{changeAt}
 use Rattle.run.specs.Plan.{Acts}
 use Rattle.run.specs.Machine as Run
 use Rattle.run.specs.Machine.{Request, Run, visit, visits, stays, leaves, begin, answer, run}
@@ -21,12 +21,12 @@ use Rattle.run.specs.Demand.{EveryRun, Demand3}
 use Rattle.run.proofs.Sound.{Sound}
 use Rattle.run.proofs.Delay as Delay
 use Rattle.run.proofs.Beside as Beside
-use Rattle.planned.specs.Plan.{isListed, planOf}
-use Rattle.planned.proofs.Sound.{sound, worst-is}
-use Rattle.planned.proofs.Demand.{demand}
+use Rattle.machine.specs.Plan.{isListed, planOf}
+use Rattle.machine.proofs.Sound.{sound, worst-is}
+use Rattle.machine.proofs.Sound.{demand}
 use Rattle.planner.specs.declared.Answer.the-variants.{Accepted as Plan-accepted}
 use Rattle.planner.specs.Plans.{Plans, Leaves}
-use Rattle.planner.proofs.Leaving.{stored-leaves, leaves-stored, leaves-table, leaves-whole, leaves-proper}
+use Rattle.planner.proofs.Leaving.{stored-leaves, leaves-stored, leaves-table, leaves-plan, leaves-proper}
 use Rattle.machine.specs.declared.Machine.{Machine}
 use Rattle.machine.specs.declared.Beginning.{Beginning}
 use Rattle.machine.specs.declared.Beginning.the-variants.{Begun, Refused as NotBegun}
@@ -37,7 +37,7 @@ use Rattle.machine.specs.Answers.{seen, asking, machine, Begins, accepti
 use Rattle.machine.proofs.Unique.{same-refusal}
 
 -- what an accepted text leaves in the words is the plan of one table, and demand 3 holds of it
-pub closed : (text before words : List ℕ) → Plans text before Plan-accepted words → (t : Table) × (w : Whole) × Leaves t w words × Demand3 (planOf t w)
+pub closed : (text before words : List ℕ) → Plans text before Plan-accepted words → (t : Table) × (w : Plan) × Leaves t w words × Demand3 (planOf t w)
 closed text before words p = let (t, w, l) = stored-leaves words (text, before, p) in (t, w, l, demand (leaves-proper l) (l .planned))
 
 -- the machine that is begun
@@ -50,7 +50,7 @@ unfoldable delayOr : Tick → Reply → Tick
 delayOr d (Accepted e) = e
 delayOr d (Refused r) = d
 
-module _ {t : Table} {w : Whole} {words : List ℕ} (l : Leaves t w words) where
+module _ {t : Table} {w : Plan} {words : List ℕ} (l : Leaves t w words) where
   -- an answer of the machine leaves the machine of the run
   pub answers-run : {m : Machine} {a : Answer} (s : Run) (r : Request) → seen m ≡ s .now → Answers words m (r .mode) (tick (r .tick)) a
       → seen (a .machine) ≡ answer (planOf t w) s r .now
@@ -60,7 +60,7 @@ module _ {t : Table} {w : Whole} {words : List ℕ} (l : Leaves t w words) where
       rw (ne-eqb (Run.refusal (planOf t w) (s .now) r) 0 (λ z. omega (arith, f, same-refusal k l r e, z))) e
   answers-run s r e (Answers.accepted k f) =
       rw (eq-eqb (Run.refusal (planOf t w) (s .now) r) 0 (sym (same-refusal k l r e) ∙ f))
-      (λ i. Run.next (planOf (leaves-table k l i) (leaves-whole k l i)) (e i) r)
+      (λ i. Run.next (planOf (leaves-table k l i) (leaves-plan k l i)) (e i) r)
 
   -- answered one after the other, requests lead to the machine of the run
   pub follows-run : {m n : Machine} {rs : List Request} (s : Run) → seen m ≡ s .now → Follows words m rs n → seen n ≡ run (planOf t w) s rs .now
@@ -76,7 +76,7 @@ module _ {t : Table} {w : Whole} {words : List ℕ} (l : Leaves t w words) where
   begun-is m (Begins.begun {k = k} p q r) e = (
     k,
     subst (λ (u : Table). T (isListed u k)) (leaves-table p l) r,
-    sym (ap (λ (x : Beginning). seen (machineOr m x)) e) ∙ (λ i. begin (planOf (leaves-table p l i) (leaves-whole p l i)) k .now),
+    sym (ap (λ (x : Beginning). seen (machineOr m x)) e) ∙ (λ i. begin (planOf (leaves-table p l i) (leaves-plan p l i)) k .now),
   )
 
   pub begun-run : {mode : ℕ} {m n : Machine} {rs : List Request} → Begins words mode (Begun m) → Follows words m rs n
@@ -104,7 +104,7 @@ module _ {t : Table} {w : Whole} {words : List ℕ} (l : Leaves t w words) where
         Delay.delay-worst (planOf t w) plan-sound (seen m) r g,
         printed-worst (m .mode) mode (a .old) (a .new) (a .other),
         ap (λ (x : Reply). delayOr d x .0) e,
-        ap₂ (λ (t : Table) (w : Whole). Run.delay (planOf t w) (seen m) r) (leaves-table k l) (leaves-whole k l),
+        ap₂ (λ (t : Table) (w : Plan). Run.delay (planOf t w) (seen m) r) (leaves-table k l) (leaves-plan k l),
       )
 
   -- .. and some request to a machine that has begun in the old mode is told it

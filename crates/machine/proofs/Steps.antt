@@ -20,12 +20,12 @@ use Rattle.terms.specs.Place.{numberOf}
 use Rattle.tables.specs.declared.Table.{Table}
 use Rattle.tables.specs.Shape.{modeAt}
 use Rattle.tables.specs.Proper.{ProperTable}
-use Rattle.whole.specs.declared.Whole.{Whole}
-use Rattle.run.specs.Plan.{Plan}
+use Rattle.planning.specs.declared.Plan.{Plan}
+use Rattle.run.specs.Plan.{RunPlan}
 use Rattle.run.specs.Machine as Run
 use Rattle.run.proofs.Delay as Delay
-use Rattle.planned.specs.Plan.{modeOf, partOf, isListed, planOf}
-use Rattle.planned.proofs.Sound.{listed-is, is-listed, runs, startup-is, startup-short, iteration-short, offset-short}
+use Rattle.machine.specs.Plan.{modeOf, partOf, isListed, planOf}
+use Rattle.machine.proofs.Sound.{listed-is, is-listed, runs, startup-is, startup-short, iteration-short, offset-short}
 use Rattle.planner.specs.Plans.{Leaves}
 use Rattle.planner.proofs.Leaving.{leaves-proper}
 use Rattle.machine.specs.declared.Machine.{Machine}
@@ -88,7 +88,7 @@ module _ (m : Machine) (c : Course) (t : Tick) (near : Near m c t) where
   left-soon = omega (arith, times-fit, near .started)
 
 -- the first refusal that applies to a request
-module _ (p : Plan) (m : Run.Machine) (r : Run.Request) where
+module _ (p : RunPlan) (m : Run.Machine) (r : Run.Request) where
   pub refused-16 : p .listed (m .mode) ≡ false → Run.refusal p m r ≡ NO-MACHINE
   unfolding Run.refusal
   refused-16 h = rw h
@@ -125,7 +125,7 @@ module _ (p : Plan) (m : Run.Machine) (r : Run.Request) where
                 lt-ltb (r .tick) (m .ended) h,
               )
 
-module _ {t : Table} {w : Whole} {words : List ℕ} (l : Leaves t w words) where
+module _ {t : Table} {w : Plan} {words : List ℕ} (l : Leaves t w words) where
   pub refuses : {m : Machine} {mode n : ℕ} {clock : Tick} {x : Answer} → Run.refusal (planOf t w) (seen m) (asking mode clock) ≡ suc n
       → x ≡ refusing m (suc n) → Answers words m mode clock x
   refuses {m} {mode} {n} {clock} e x = subst (Answers words m mode clock) (sym x) (refused l e)

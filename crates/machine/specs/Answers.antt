@@ -10,10 +10,10 @@ use Rattle.terms.specs.Refusal.{NO-MODE, NO-PLAN}
 use Rattle.terms.specs.declared.refusal.Place.the-variants.{Nowhere}
 use Rattle.terms.specs.declared.refusal.Refusal.{Refusal}
 use Rattle.tables.specs.declared.Table.{Table}
-use Rattle.whole.specs.declared.Whole.{Whole}
-use Rattle.run.specs.Plan.{Plan}
+use Rattle.planning.specs.declared.Plan.{Plan}
+use Rattle.run.specs.Plan.{RunPlan}
 use Rattle.run.specs.Machine as Run
-use Rattle.planned.specs.Plan.{isListed, planOf}
+use Rattle.machine.specs.Plan.{isListed, planOf}
 use Rattle.planner.specs.Plans.{Stored, Leaves}
 use Rattle.machine.specs.declared.Machine.{Machine}
 use Rattle.machine.specs.declared.Beginning.{Beginning}
@@ -44,8 +44,8 @@ pub record Meant (t : Table) (mode k : ℕ) : Type 0 where
 -- first change counts as ended at the end of the mode's start-up.
 pub data Begins (words : List ℕ) (mode : ℕ) : Beginning → Type 0 where
   not-stored : (Stored words → ⊥) → Begins words mode (NotBegun (refusalOf NO-PLAN))
-  not-listed : {t : Table} {w : Whole} {k : ℕ} → Leaves t w words → Meant t mode k → (T (isListed t k) → ⊥) → Begins words mode (NotBegun (refusalOf NO-MODE))
-  begun : {t : Table} {w : Whole} {k : ℕ} → Leaves t w words → Meant t mode k → T (isListed t k)
+  not-listed : {t : Table} {w : Plan} {k : ℕ} → Leaves t w words → Meant t mode k → (T (isListed t k) → ⊥) → Begins words mode (NotBegun (refusalOf NO-MODE))
+  begun : {t : Table} {w : Plan} {k : ℕ} → Leaves t w words → Meant t mode k → T (isListed t k)
       → Begins words mode (Begun (machine (Run.begin (planOf t w) k .now)))
 
 -- the answer that refuses, and leaves the machine as it stood
@@ -53,7 +53,7 @@ abbrev pub refusing : Machine → ℕ → Answer
 refusing m n = record { reply = Refused (refusalOf n); machine = m }
 
 -- the answer that accepts: the delay, and the machine after the change
-abbrev pub accepting : Plan → Machine → ℕ → Tick → Answer
+abbrev pub accepting : RunPlan → Machine → ℕ → Tick → Answer
 accepting p m mode clock =
     record { reply = Accepted (tick (Run.delay p (seen m) (asking mode clock))); machine = machine (Run.next p (seen m) (asking mode clock)) }
 
@@ -61,9 +61,9 @@ accepting p m mode clock =
 -- new mode, which starts at F + d.
 pub data Answers (words : List ℕ) (m : Machine) (mode : ℕ) (clock : Tick) : Answer → Type 0 where
   not-stored : (Stored words → ⊥) → Answers words m mode clock (refusing m NO-PLAN)
-  refused : {t : Table} {w : Whole} {n : ℕ} → Leaves t w words → Run.refusal (planOf t w) (seen m) (asking mode clock) ≡ suc n
+  refused : {t : Table} {w : Plan} {n : ℕ} → Leaves t w words → Run.refusal (planOf t w) (seen m) (asking mode clock) ≡ suc n
       → Answers words m mode clock (refusing m (suc n))
-  accepted : {t : Table} {w : Whole} → Leaves t w words → Run.refusal (planOf t w) (seen m) (asking mode clock) ≡ 0
+  accepted : {t : Table} {w : Plan} → Leaves t w words → Run.refusal (planOf t w) (seen m) (asking mode clock) ≡ 0
       → Answers words m mode clock (accepting (planOf t w) m mode clock)
 
 -- Requests answered one after the other, each answer's machine handed to the next: from machine m they lead to the last one.

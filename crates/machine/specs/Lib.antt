@@ -1,4 +1,5 @@
 -- What the machine answers.
+pub mod Plan
 pub mod Answers
 pub mod Numbers
 pub mod Steps

@@ -7,9 +7,9 @@ use Rattle.units.specs.declared.Tick.{Tick}
 use Rattle.units.specs.Ticks.{tick, greaterTick}
 use Rattle.terms.specs.Place.{placeOf}
 use Rattle.tables.specs.declared.Table.{Table}
-use Rattle.whole.specs.declared.Whole.{Whole}
-use Rattle.whole.specs.Whole.{changeAt}
-use Rattle.planned.specs.Plan.{isListed, partOf}
+use Rattle.planning.specs.declared.Plan.{Plan}
+use Rattle.planning.specs.Plan.{changeAt}
+use Rattle.machine.specs.Plan.{isListed, partOf}
 use Rattle.machine.specs.declared.Machine.{Machine}
 use Rattle.machine.specs.declared.Course.{Course}
 use Rattle.machine.specs.declared.Reply.the-variants.{Accepted}
@@ -19,7 +19,7 @@ use Rattle.machine.specs.declared.Answer.{Answer}
 abbrev pub lowestOf : Table → ℕ
 lowestOf t = lowestOr (isListed t) 0 MODES 1
 
-abbrev pub courseOf : Whole → ℕ → ℕ → Course
+abbrev pub courseOf : Plan → ℕ → ℕ → Course
 courseOf w o l = record { iteration = partOf w o .iteration; old = partOf w o .startup; new = partOf w l .startup; offset = changeAt w (placeOf o) (placeOf l) .offset }
 
 -- ticks so small that every sum fits

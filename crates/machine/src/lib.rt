@@ -67,13 +67,13 @@ pub fn start(words: &[u64], mode: u64) -> Beginning
         return Beginning::Refused(refusal(NO_PLAN));
     }
     let table = recalled.table;
-    let whole = recalled.whole;
+    let plan = recalled.plan;
     let chosen = if mode == 0 { lowest(table) } else { mode };
     if !listed(table, chosen) {
         return Beginning::Refused(refusal(NO_MODE));
     }
     let place = place_of(chosen);
-    let part = whole.parts[place];
+    let part = plan.parts[place];
     let ended = part.startup;
     Beginning::Begun(Machine {
         mode: chosen,
@@ -126,7 +126,7 @@ impl Machine {
             return self.refuse(NO_PLAN);
         }
         let table = recalled.table;
-        let whole = recalled.whole;
+        let plan = recalled.plan;
         if !listed(table, self.mode) {
             return self.refuse(NO_MACHINE);
         }
@@ -147,6 +147,6 @@ impl Machine {
         if !ended.at_most(clock) {
             return self.refuse(UNENDED);
         }
-        self.change(modes::course(whole, self.mode, mode), mode, clock)
+        self.change(modes::course(plan, self.mode, mode), mode, clock)
     }
 }

@@ -1,14 +1,14 @@
 // The modes of a plan, by their numbers.
 use crate::Course;
+use planning::Plan;
 use tables::Table;
 use terms::place::number_of;
 use terms::place::place_of;
 use units::limits::MODES;
-use whole::Whole;
 ghost use mathlib.Core.Path.{_≡_};
 ghost use Prim.Native.Nat.{_≤_};
 ghost use Rattle.units.specs.Limits.{MODES};
-ghost use Rattle.planned.specs.Plan.{isListed};
+ghost use Rattle.machine.specs.Plan.{isListed};
 ghost use Rattle.machine.specs.Steps.{lowestOf, courseOf};
 
 // Whether the mode is in the plan.
@@ -40,15 +40,15 @@ pub(crate) fn lowest(table: Table) -> u64
 }
 
 // The ticks of the change from one mode to another.
-pub(crate) fn course(whole: Whole, old: u64, new: u64) -> Course
+pub(crate) fn course(plan: Plan, old: u64, new: u64) -> Course
     requires { ⌜ (1 ≤ old) × (old ≤ MODES) × (1 ≤ new) × (new ≤ MODES) ⌝ }
-    ensures { λ r. ⌜ r ≡ courseOf whole old new ⌝ }
+    ensures { λ r. ⌜ r ≡ courseOf plan old new ⌝ }
 {
     let from = place_of(old);
     let to = place_of(new);
-    let left = whole.parts[from];
-    let entered = whole.parts[to];
-    let timing = whole.changes[MODES * from + to];
+    let left = plan.parts[from];
+    let entered = plan.parts[to];
+    let timing = plan.changes[MODES * from + to];
     let iteration = left.iteration;
     let before = left.startup;
     let after = entered.startup;

@@ -33,21 +33,21 @@ use Rattle.schedule.specs.Reached.{startAt}
 use Rattle.schedule.specs.Model.{startsOf}
 use Rattle.schedule.proofs.Laws.{starts-exist}
 use Rattle.change.specs.Change.{loadAt}
-use Rattle.whole.specs.declared.Whole.{Whole}
-use Rattle.whole.specs.declared.Answer.{Answer}
-use Rattle.whole.specs.declared.Answer.the-variants.{Planned as IsPlanned, Refused as IsRefused}
-use Rattle.whole.specs.Whole.{Planned}
-use Rattle.whole.proofs.Unique.{plan-unique}
+use Rattle.planning.specs.declared.Plan.{Plan}
+use Rattle.planning.specs.declared.Answer.{Answer}
+use Rattle.planning.specs.declared.Answer.the-variants.{Planned as IsPlanned, Refused as IsRefused}
+use Rattle.planning.specs.Plan.{Planned}
+use Rattle.planning.proofs.Unique.{plan-unique}
 use Rattle.run.specs.Machine as Run
-use Rattle.planned.specs.Plan.{isListed, planOf}
+use Rattle.machine.specs.Plan.{isListed, planOf}
 use Rattle.printer.specs.Printed.{planText, Shows}
 use Rattle.planner.specs.declared.Answer.the-variants.{Accepted}
 use Rattle.planner.specs.Plans.{Reads, accepted, not-planned, Leaves, no-room, not-stored, printed}
-use Rattle.planner.proofs.Leaving.{reads-one, leaves-stored, leaves-table, leaves-whole}
+use Rattle.planner.proofs.Leaving.{reads-one, leaves-stored, leaves-table, leaves-plan}
 use Rattle.planner.proofs.Answering.{plans-unique}
 use Rattle.machine.specs.Answers.{machine}
 use Rattle.marked.specs.Lines.{Claim, prints, refuses, starts, loads, answers, Line, textOf, WhenPlanned, WhenPrinted, WhenBegun, timesAt, Claimed, Holds}
-use Rattle.marked.proofs.Reckoned.{answerOf, answersOf, wholeOf, whole-planned, first-refused}
+use Rattle.marked.proofs.Reckoned.{answerOf, answersOf, planFor, plan-planned, first-refused}
 use Rattle.marked.proofs.Told.{Tells, begun-answers}
 
 -- the text is read: it passes the test by computing, and is neither empty nor too long
@@ -73,7 +73,7 @@ startsIn m = startsOf m (judgeOf m .periods) (judgeOf m .depths)
 
 -- what is to be reckoned for a claim
 abbrev pub Right : List ℕ → Claim → Type 0
-Right text (prints ls) = Passes text × (planText (tableIn text) (wholeOf (tableIn text)) ≡ textOf ls)
+Right text (prints ls) = Passes text × (planText (tableIn text) (planFor (tableIn text)) ≡ textOf ls)
 Right text (refuses n row m a q) = IsRead text × Refuses (answerOf (modeAt (tableIn text) 0) 1) (lineOf n row m a q)
 Right text (starts n ss) =
     IsRead text
@@ -82,12 +82,12 @@ Right text (starts n ss) =
     × (startsIn (modeAt (tableIn text) (n - 1)) ≡ map tick ss ++ replicate (ACTORS - length ss) (tick 0))
 Right text (loads o n d k q over under) =
     Passes text
-    × Same (loadAt (timesAt (tableIn text) (wholeOf (tableIn text)) o) (timesAt (tableIn text) (wholeOf (tableIn text)) n) d k q)
+    × Same (loadAt (timesAt (tableIn text) (planFor (tableIn text)) o) (timesAt (tableIn text) (planFor (tableIn text)) n) d k q)
     (record { over = over; under = under })
 Right text (answers n qs) =
     Passes text
     × T (isListed (tableIn text) n)
-    × Tells (planOf (tableIn text) (wholeOf (tableIn text))) (machine (Run.begin (planOf (tableIn text) (wholeOf (tableIn text))) n .now)) qs
+    × Tells (planOf (tableIn text) (planFor (tableIn text))) (machine (Run.begin (planOf (tableIn text) (planFor (tableIn text))) n .now)) qs
 
 both : (x y : Bool) → T (x && y) → T x × T y
 both x y h = decides-and x y Iff·rfl Iff·rfl .0 h
@@ -109,25 +109,25 @@ module _ (text : List ℕ) where
   proper : IsRead text → ProperTable (tableIn text)
   proper h = reads-proper text (tableIn text) (reads h)
 
-  planned : Passes text → Planned (tableIn text) (wholeOf (tableIn text))
-  planned g = whole-planned (tableIn text) (proper (g .0)) (g .1)
+  planned : Passes text → Planned (tableIn text) (planFor (tableIn text))
+  planned g = plan-planned (tableIn text) (proper (g .0)) (g .1)
 
 -- whatever is answered to a text with a plan, it is accepted and leaves that plan
-module _ {text : List ℕ} {t : Table} {w : Whole} (r : Reads text t) (p : Planned t w) where
+module _ {text : List ℕ} {t : Table} {w : Plan} (r : Reads text t) (p : Planned t w) where
   planning : (P : List ℕ → Type 0) → ((words : List ℕ) → Leaves t w words → P words) → WhenPlanned text (λ a before after. (a ≡ Accepted) × P after)
   planning P f before after a l q =
       let (e, k) = plans-unique q (accepted l r p) in (e, f after (record { text = text; reads = r; planned = p; left = k }))
 
   -- and it is the only plan
-  any-plan : (P : Table → Whole → Type 0) → P t w → (u : Table) (v : Whole) → Reads text u → Planned u v → P u v
+  any-plan : (P : Table → Plan → Type 0) → P t w → (u : Table) (v : Plan) → Reads text u → Planned u v → P u v
   any-plan P h u v s x = let e = reads-one r s in subst₂ P e (plan-unique u w v (subst (λ (y : Table). Planned y w) e p) x) h
 
 -- whatever is printed of words is the text of their plan
-printed-is : {t : Table} {w : Whole} {words : List ℕ} → Leaves t w words → (shown : List ℕ) → planText t w ≡ shown → WhenPrinted words shown
+printed-is : {t : Table} {w : Plan} {words : List ℕ} → Leaves t w words → (shown : List ℕ) → planText t w ≡ shown → WhenPrinted words shown
 printed-is l shown e before after x h (no-room n) = absurd (n h)
 printed-is l shown e before after x h (not-stored k n) = absurd (n (leaves-stored l))
 printed-is l shown e before after x h (printed {n = n} k q s) =
-    (n, refl, subst (λ (y : List ℕ). Shows y after n) (ap₂ planText (leaves-table q l) (leaves-whole q l) ∙ e) s)
+    (n, refl, subst (λ (y : List ℕ). Shows y after n) (ap₂ planText (leaves-table q l) (leaves-plan q l) ∙ e) s)
 
 -- whatever is judged of a mode has the starts that are reckoned
 judged-starts : (m : Mode) (ss : List ℕ) (z : ℕ) → ProperMode m → judgeOf m .verdict ≡ Sound → startsIn m ≡ map tick ss ++ replicate z (tick 0)

@@ -25,7 +25,7 @@ use Rattle.schedule.specs.Model.{depthFrom, startsFrom, scheduleOf}
 use Rattle.printer.specs.Texts.{texts}
 use Rattle.printer.specs.Printed.{five, lineText, planText}
 use Rattle.marked.specs.Lines.{textOf}
-use Rattle.marked.proofs.Reckoned.{answerOf, partFor, wholeOf}
+use Rattle.marked.proofs.Reckoned.{answerOf, partFor, planFor}
 use Rattle.marked.proofs.Claims.{tableIn}
 
 -- lines one behind the other, and nothing behind the last
@@ -46,7 +46,7 @@ text = textOf ("actor,1,1,1,1,1" ∷ "actor,1,2,1,1048576,2" ∷ "channel,1,1,2,
 abbrev actorLine : ℕ → ℕ → ℕ → ℕ → List ℕ
 actorLine i q t s = lineText (bytes "actor") (five 1 i q t s)
 
-printed-lines : planText (tableIn text) (wholeOf (tableIn text)) ≡ inOne (actorLine 1 1 16777216 0) (actorLine 2 16 1048576 16777216) (lineText (bytes "channel") (five 1 1 2 32 16))
+printed-lines : planText (tableIn text) (planFor (tableIn text)) ≡ inOne (actorLine 1 1 16777216 0) (actorLine 2 16 1048576 16777216) (lineText (bytes "channel") (five 1 1 2 32 16))
 unfolding bit sum tab lowestOr gcdFrom mostOf rowsIn tableOf padded predsFrom roundFrom orderFrom chosen giversFrom entriesFrom stays fedOf countsFrom balancesb mostFrom commonFrom shareFrom timedOf balancedOf judgeOf startOf sizeOf depthFrom startsFrom scheduleOf answerOf partFor texts
 printed-lines = refl
 
@@ -64,5 +64,5 @@ written-lines =
       numeral-is (bytes "0") refl,
     ) refl
 
-pub large : planText (tableIn text) (wholeOf (tableIn text)) ≡ textOf ("actor,1,1,1,16777216,0" ∷ "actor,1,2,16,1048576,16777216" ∷ "channel,1,1,2,32,16" ∷ [])
+pub large : planText (tableIn text) (planFor (tableIn text)) ≡ textOf ("actor,1,1,1,16777216,0" ∷ "actor,1,2,16,1048576,16777216" ∷ "channel,1,1,2,32,16" ∷ [])
 large = printed-lines ∙ in-one _ _ _ ∙ written-lines

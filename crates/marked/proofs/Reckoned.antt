@@ -7,7 +7,7 @@ use native.Mathlib.Omega.{arith}
 use borrow.Author.Tests.{eqb-true, eqb-false}
 use lib.Dec.{eqb}
 use lib.ListN.{getD, replicate}
-use Rattle.numbers.specs.Filled.{filled-whole}
+use Rattle.numbers.specs.Filled.{filled-plan}
 use Rattle.numbers.specs.Tab.{tab, length-tab, getD-tab, getD-replicated}
 use Rattle.units.specs.Limits.{MODES, limitOf}
 use Rattle.units.specs.declared.Tick.{Tick}
@@ -32,16 +32,16 @@ use Rattle.change.specs.declared.Timing.{Timing}
 use Rattle.change.specs.Running.{worstOf, Ready}
 use Rattle.change.specs.Waits.{overlapOf, offsetFrom}
 use Rattle.change.proofs.Offsets.{found}
-use Rattle.whole.specs.declared.Part.{Part}
-use Rattle.whole.specs.declared.Whole.{Whole}
-use Rattle.whole.specs.declared.Answer.{Answer}
-use Rattle.whole.specs.declared.Answer.the-variants.{Planned as IsPlanned, Refused as IsRefused}
-use Rattle.whole.specs.Nothing.{noPart, noTiming, emptyPart, emptyWhole}
-use Rattle.whole.specs.Whole.{refusal, partOf, IsPart, Planned, Planning, refused}
-use Rattle.whole.specs.Steps.{Comes, AnyComes, runningAt, runningsOf, AllReady, Between, ChangeOf, FoundParts, FoundChanges}
-use Rattle.whole.proofs.Told.{judged-refuses, scheduled-refuses}
-use Rattle.whole.proofs.Running.{all-ready, listed-some}
-use Rattle.whole.proofs.Coming.{any-comes, part-comes, plan-comes}
+use Rattle.planning.specs.declared.ModePlan.{ModePlan}
+use Rattle.planning.specs.declared.Plan.{Plan}
+use Rattle.planning.specs.declared.Answer.{Answer}
+use Rattle.planning.specs.declared.Answer.the-variants.{Planned as IsPlanned, Refused as IsRefused}
+use Rattle.planning.specs.Nothing.{noPart, noTiming, emptyPart, emptyPlan}
+use Rattle.planning.specs.Plan.{refusal, partOf, IsPart, Planned, Planning, refused}
+use Rattle.planning.specs.Steps.{Comes, AnyComes, runningAt, runningsOf, AllReady, Between, ChangeOf, FoundParts, FoundChanges}
+use Rattle.planning.proofs.Told.{judged-refuses, scheduled-refuses}
+use Rattle.planning.proofs.Running.{all-ready, listed-some}
+use Rattle.planning.proofs.Coming.{any-comes, part-comes, plan-comes}
 
 -- the answer to the mode with number n, by its verdict and by its timing
 abbrev answerBy : ℕ → Verdict → Lateness → Answer
@@ -56,13 +56,13 @@ answerBy n Sound OnTime = IsPlanned
 abbrev answerIn : Mode → ℕ → Answer
 answerIn m n = answerBy n (judgeOf m .verdict) (scheduleOf m (judgeOf m) .timing)
 
-abbrev partIn : Mode → Part
+abbrev partIn : Mode → ModePlan
 partIn m = partOf (judgeOf m) (scheduleOf m (judgeOf m))
 
 unfoldable pub answerOf : Mode → ℕ → Answer
 answerOf m n = cond (eqb (m .active) 0) IsPlanned (answerIn m n)
 
-unfoldable pub partFor : Mode → Part
+unfoldable pub partFor : Mode → ModePlan
 partFor m = cond (eqb (m .active) 0) emptyPart (partIn m)
 
 module _ (m : Mode) (n : ℕ) (proper : ProperMode m) where
@@ -121,19 +121,19 @@ between old new k l ready-old ready-new = go (eqb (old .active) 0) (eqb (new .ac
 abbrev pub answersOf : Table → List Answer
 answersOf t = tab MODES (λ k. answerOf (modeAt t k) (k + 1))
 
-abbrev pub partsOf : Table → List Part
+abbrev pub partsOf : Table → List ModePlan
 partsOf t = tab MODES (λ k. partFor (modeAt t k))
 
 abbrev changesOf : List Running → List Timing
 changesOf rs = tab (MODES * MODES) (λ n. changeFor (runningAt rs (n / MODES)) (runningAt rs (n % MODES)) (n / MODES) (n % MODES))
 
-abbrev pub wholeOf : Table → Whole
-wholeOf t = record { parts = partsOf t; changes = changesOf (runningsOf t (partsOf t)) }
+abbrev pub planFor : Table → Plan
+planFor t = record { parts = partsOf t; changes = changesOf (runningsOf t (partsOf t)) }
 
 module _ (t : Table) (proper : ProperTable t) where
   -- a table of which no mode is refused
-  pub whole-planned : answersOf t ≡ replicate MODES IsPlanned → Planned t (wholeOf t)
-  whole-planned e = plan-comes t proper (partsOf t) _ made changes
+  pub plan-planned : answersOf t ≡ replicate MODES IsPlanned → Planned t (planFor t)
+  plan-planned e = plan-comes t proper (partsOf t) _ made changes
     where
       passes : (k : ℕ) → k < MODES → answerOf (modeAt t k) (k + 1) ≡ IsPlanned
       passes k h =
@@ -142,7 +142,7 @@ module _ (t : Table) (proper : ProperTable t) where
 
       made : FoundParts t (partsOf t) MODES
       made =
-          filled-whole MODES (IsPart t) emptyPart noPart (partsOf t) (length-tab MODES _)
+          filled-plan MODES (IsPart t) emptyPart noPart (partsOf t) (length-tab MODES _)
           (λ k h. subst (IsPart t k) (sym (getD-tab MODES (λ k. partFor (modeAt t k)) k noPart h))
           (part-comes t proper k h _ _ (any-mode-comes (modeAt t k) (k + 1) (proper .mode k h)) (passes k h)))
 
@@ -151,12 +151,12 @@ module _ (t : Table) (proper : ProperTable t) where
 
       changes : FoundChanges (runningsOf t (partsOf t)) (changesOf (runningsOf t (partsOf t))) (MODES * MODES)
       changes =
-          filled-whole (MODES * MODES) (ChangeOf (runningsOf t (partsOf t))) noTiming noTiming (changesOf (runningsOf t (partsOf t))) (length-tab (MODES * MODES) _)
+          filled-plan (MODES * MODES) (ChangeOf (runningsOf t (partsOf t))) noTiming noTiming (changesOf (runningsOf t (partsOf t))) (length-tab (MODES * MODES) _)
           (λ n h. subst (ChangeOf (runningsOf t (partsOf t)) n) (sym (getD-tab (MODES * MODES) _ n noTiming h))
           (between _ _ _ _ (ready .ready (n / MODES) (omega arith)) (ready .ready (n % MODES) (omega arith))))
 
   -- one whose mode 1 is refused
-  pub first-refused : (r : Refusal) → answerOf (modeAt t 0) 1 ≡ IsRefused r → Planning t (record { answer = IsRefused r; whole = emptyWhole })
+  pub first-refused : (r : Refusal) → answerOf (modeAt t 0) 1 ≡ IsRefused r → Planning t (record { answer = IsRefused r; plan = emptyPlan })
   first-refused r e =
       let (some, by) = subst (λ (a : Answer). AnyComes (modeAt t 0) 1 a (partFor (modeAt t 0))) e (any-mode-comes (modeAt t 0) 1 (proper .mode 0 (omega arith))) in
       refused (listed-some t 0 proper (omega arith) some) (λ l h. absurd (omega arith)) by

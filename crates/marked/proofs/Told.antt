@@ -6,10 +6,10 @@ use lib.Dec.{T}
 use Rattle.units.specs.declared.Tick.{Tick}
 use Rattle.units.specs.Ticks.{tick}
 use Rattle.tables.specs.declared.Table.{Table}
-use Rattle.whole.specs.declared.Whole.{Whole}
+use Rattle.planning.specs.declared.Plan.{Plan}
 use Rattle.run.specs.Machine as Run
-use Rattle.run.specs.Plan.{Plan}
-use Rattle.planned.specs.Plan.{isListed, planOf}
+use Rattle.run.specs.Plan.{RunPlan}
+use Rattle.machine.specs.Plan.{isListed, planOf}
 use Rattle.planner.specs.Plans.{Leaves}
 use Rattle.machine.specs.declared.Machine.{Machine}
 use Rattle.machine.specs.declared.Answer.{Answer}
@@ -19,19 +19,19 @@ use Rattle.machine.proofs.Steps.{meant-named}
 use Rattle.marked.specs.Lines.{Asked, WhenAsked, WhenBegun}
 
 -- the answer to a request, by the number of its refusal
-abbrev answerBy : ℕ → Plan → Machine → ℕ → Tick → Answer
+abbrev answerBy : ℕ → RunPlan → Machine → ℕ → Tick → Answer
 answerBy zero p m mode clock = accepting p m mode clock
 answerBy (suc n) p m mode clock = refusing m (suc n)
 
-abbrev answerTo : Plan → Machine → Asked → Answer
+abbrev answerTo : RunPlan → Machine → Asked → Answer
 answerTo p m q = answerBy (Run.refusal p (seen m) (asking (q .mode) (tick (q .clock)))) p m (q .mode) (tick (q .clock))
 
 -- requests one after the other are told what is claimed
-unfoldable pub Tells : Plan → Machine → List Asked → Type 0
+unfoldable pub Tells : RunPlan → Machine → List Asked → Type 0
 Tells p m [] = Unit {0}
 Tells p m (q ∷ qs) = (answerTo p m q .reply ≡ q .told) × Tells p (answerTo p m q .machine) qs
 
-module _ {t : Table} {w : Whole} {words : List ℕ} (l : Leaves t w words) where
+module _ {t : Table} {w : Plan} {words : List ℕ} (l : Leaves t w words) where
   answer-to : (m : Machine) (q : Asked) → Answers words m (q .mode) (tick (q .clock)) (answerTo (planOf t w) m q)
   answer-to m q = go (Run.refusal (planOf t w) (seen m) (asking (q .mode) (tick (q .clock)))) refl
     where

@@ -17,8 +17,8 @@ use Rattle.graph.specs.declared.Judgement.{Judgement}
 use Rattle.graph.specs.Judged.{Judged}
 use Rattle.schedule.specs.Starts.{Starts}
 use Rattle.change.specs.Change.{ModeTimes, loadAt}
-use Rattle.whole.specs.declared.Whole.{Whole}
-use Rattle.whole.specs.Whole.{partAt, timesOf, Planned}
+use Rattle.planning.specs.declared.Plan.{Plan}
+use Rattle.planning.specs.Plan.{partAt, timesOf, Planned}
 use Rattle.layout.specs.Words.{WORDS}
 use Rattle.printer.specs.Printed.{PRINTED, Shows}
 use Rattle.planner.specs.declared.Answer as Planner
@@ -91,7 +91,7 @@ abbrev pub WhenBegun : List ℕ → ℕ → List Asked → Type 0
 WhenBegun words mode asked = (b : Beginning) → Begins words mode b → (m : Machine) × (b ≡ Begun m) × WhenAsked words m asked
 
 -- mode n of a planned table as it runs
-abbrev pub timesAt : Table → Whole → ℕ → ModeTimes
+abbrev pub timesAt : Table → Plan → ℕ → ModeTimes
 timesAt t w n = timesOf (modeAt t (n - 1)) (partAt w (n - 1))
 
 -- the claim holds of the table of this text
@@ -103,7 +103,7 @@ Claimed text (starts n ss) =
     (t : Table) (j : Judgement) → Reads text t → Judged (modeAt t (n - 1)) j
     → (j .verdict ≡ Sound) × Starts (modeAt t (n - 1)) (j .periods) (λ i. tick (getD ss i 0))
 Claimed text (loads o n d k p over under) =
-    (t : Table) (w : Whole) → Reads text t → Planned t w
+    (t : Table) (w : Plan) → Reads text t → Planned t w
     → Same (loadAt (timesAt t w o) (timesAt t w n) d k p) (record { over = over; under = under })
 Claimed text (answers n asked) = WhenPlanned text (λ a before after. (a ≡ Accepted) × WhenBegun after n asked)
 

@@ -14,14 +14,14 @@ use Rattle.reader.specs.declared.Answer.{Answer as ReadAnswer}
 use Rattle.reader.specs.declared.Answer.the-variants.{Read, Refused as NotRead}
 use Rattle.reader.specs.Told.{Outcome as Rows, rows, refused as rows-refused, Of, readingOf, Told}
 use Rattle.reader.proofs.Again.{told-one}
-use Rattle.whole.specs.declared.Whole.{Whole}
-use Rattle.whole.specs.declared.Outcome.{Outcome}
-use Rattle.whole.specs.declared.Answer.{Answer as WholeAnswer}
-use Rattle.whole.specs.declared.Answer.the-variants.{Planned as IsPlanned, Refused as NotPlanned}
-use Rattle.whole.specs.Nothing.{emptyWhole}
-use Rattle.whole.specs.Whole.{partAt, Planned, Planning, refused, planned}
-use Rattle.whole.proofs.Unique.{planning-unique}
-use Rattle.whole.proofs.Bounds.{planned-small}
+use Rattle.planning.specs.declared.Plan.{Plan}
+use Rattle.planning.specs.declared.Outcome.{Outcome}
+use Rattle.planning.specs.declared.Answer.{Answer as PlanningAnswer}
+use Rattle.planning.specs.declared.Answer.the-variants.{Planned as IsPlanned, Refused as NotPlanned}
+use Rattle.planning.specs.Nothing.{emptyPlan}
+use Rattle.planning.specs.Plan.{partAt, Planned, Planning, refused, planned}
+use Rattle.planning.proofs.Unique.{planning-unique}
+use Rattle.planning.proofs.Bounds.{planned-small}
 use Rattle.layout.specs.Words.{wordsOf}
 use Rattle.printer.specs.Printed.{PRINTED, planText, SmallPart, Small}
 use Rattle.planner.specs.declared.Answer.{Answer}
@@ -29,7 +29,7 @@ use Rattle.planner.specs.declared.Answer.the-variants.{Accepted, Refused
 use Rattle.planner.specs.declared.Printing.{Printing}
 use Rattle.planner.specs.declared.Printing.the-variants.{Printed}
 use Rattle.planner.specs.Plans.{Reads, Plans, wrong-length, not-read, not-planned, accepted, Prints, no-room, not-stored, printed}
-use Rattle.planner.proofs.Leaving.{reads-one, leaves-stored, leaves-table, leaves-whole}
+use Rattle.planner.proofs.Leaving.{reads-one, leaves-stored, leaves-table, leaves-plan}
 
 -- a text that is read, and one that is refused
 pub told-read : {text : List ℕ} {x : Reading} → Told text x → x .answer ≡ Read → Reads text (x .table)
@@ -47,17 +47,17 @@ told-refused {text} {x} {r} (o, of, s) e = go o of s
         (rows-refused n k, of, ap (λ (a : ReadAnswer). record { answer = a; table = emptyTable }) (sym e ∙ ap (λ (x : Reading). x .answer) s))
 
 -- a table that has a plan, and one that is refused
-pub planning-planned : {t : Table} {x : Outcome} → Planning t x → x .answer ≡ IsPlanned → Planned t (x .whole)
+pub planning-planned : {t : Table} {x : Outcome} → Planning t x → x .answer ≡ IsPlanned → Planned t (x .plan)
 planning-planned (refused a f p) e = let z : _≡_ {A = ℕ} 0 1 = cc in absurd (omega arith)
 planning-planned (planned w) e = w
 
 pub planning-refused : {t : Table} {x : Outcome} {r : Refusal} → Planning t x → x .answer ≡ NotPlanned r
-    → Planning t (record { answer = NotPlanned r; whole = emptyWhole })
-planning-refused {t} (refused a f p) e = subst (λ (y : WholeAnswer). Planning t (record { answer = y; whole = emptyWhole })) e (refused a f p)
+    → Planning t (record { answer = NotPlanned r; plan = emptyPlan })
+planning-refused {t} (refused a f p) e = subst (λ (y : PlanningAnswer). Planning t (record { answer = y; plan = emptyPlan })) e (refused a f p)
 planning-refused (planned w) e = let z : _≡_ {A = ℕ} 0 1 = cc in absurd (omega arith)
 
 -- a table with a plan is not refused
-pub planned-refused : {t : Table} {w : Whole} {r : Refusal} → Planned t w → Planning t (record { answer = NotPlanned r; whole = emptyWhole }) → ⊥
+pub planned-refused : {t : Table} {w : Plan} {r : Refusal} → Planned t w → Planning t (record { answer = NotPlanned r; plan = emptyPlan }) → ⊥
 planned-refused {t} {w} {r} p q =
     let e : IsPlanned ≡ NotPlanned r = ap (λ (x : Outcome). x .answer) (planning-unique t (planned p) q) in
     let z : _≡_ {A = ℕ} 0 1 = cc in absurd (omega arith)
@@ -69,7 +69,7 @@ read-refused {text} {t} {r} p q =
     let z : _≡_ {A = ℕ} 0 1 = cc in absurd (omega arith)
 
 -- the numbers of a plan are within the limits of what is printed
-pub small-printed : (t : Table) (w : Whole) → ProperTable t → Planned t w → Small t w
+pub small-printed : (t : Table) (w : Plan) → ProperTable t → Planned t w → Small t w
 small-printed t w proper p =
     let s = planned-small t proper w p in
     let part : (m : ℕ) → m < MODES → SmallPart (modeAt t m) (partAt w m)
@@ -97,14 +97,14 @@ abbrev passed : ReadAnswer → Answer
 passed Read = Accepted
 passed (NotRead r) = Refused r
 
-abbrev kept : WholeAnswer → Answer
+abbrev kept : PlanningAnswer → Answer
 kept IsPlanned = Accepted
 kept (NotPlanned r) = Refused r
 
 refused-same : {r s : Refusal} {t u : Table} → _≡_ {A = Reading} (record { answer = NotRead r; table = t }) (record { answer = NotRead s; table = u }) → Refused r ≡ Refused s
 refused-same e = ap (λ (x : Reading). passed (x .answer)) e
 
-unplanned-same : {r s : Refusal} {w v : Whole} → _≡_ {A = Outcome} (record { answer = NotPlanned r; whole = w }) (record { answer = NotPlanned s; whole = v }) → Refused r ≡ Refused s
+unplanned-same : {r s : Refusal} {w v : Plan} → _≡_ {A = Outcome} (record { answer = NotPlanned r; plan = w }) (record { answer = NotPlanned s; plan = v }) → Refused r ≡ Refused s
 unplanned-same e = ap (λ (x : Outcome). kept (x .answer)) e
 
 -- a text's table has one outcome
@@ -129,7 +129,7 @@ plans-unique (accepted l r p) (wrong-length n) = absurd (n l)
 plans-unique (accepted l q r) (not-read m p) = absurd (read-refused q p)
 plans-unique (accepted l p r) (not-planned m q s) = absurd (planned-refused r (carried q p s))
 plans-unique (accepted l p r) (accepted {t = u} m q s) =
-    (refl, ap₂ wordsOf (reads-one p q) (ap (λ (x : Outcome). x .whole) (planning-unique u (carried p q (planned r)) (planned s))))
+    (refl, ap₂ wordsOf (reads-one p q) (ap (λ (x : Outcome). x .plan) (planning-unique u (carried p q (planned r)) (planned s))))
 
 -- one answer to words, and one content of the bytes behind it
 pub prints-unique : {words before k j : List ℕ} {x y : Printing} → Prints words before x k → Prints words before y j → (x ≡ y) × (k ≡ j)
@@ -142,6 +142,6 @@ prints-unique (not-stored l n) (printed k q s) = absurd (n (leaves-stored q))
 prints-unique (printed l p r) (no-room n) = absurd (n l)
 prints-unique (printed l p r) (not-stored k n) = absurd (n (leaves-stored p))
 prints-unique (printed l p r) (printed k q s) =
-    let e = ap₂ planText (leaves-table p q) (leaves-whole p q) in
+    let e = ap₂ planText (leaves-table p q) (leaves-plan p q) in
     let same = r .long ∙ ap length e ∙ sym (s .long) in
     (ap Printed same, r .is ∙ ap₂ (λ (text : List ℕ) (n : ℕ). text ++ replicate (PRINTED - n) 0) e same ∙ sym (s .is))

@@ -11,9 +11,9 @@ use Rattle.tables.specs.Proper.{ProperTable}
 use Rattle.reader.specs.declared.Reading.{Reading}
 use Rattle.reader.specs.Writing.{written}
 use Rattle.reader.proofs.Again.{written-reads, reads-proper, told-one}
-use Rattle.whole.specs.declared.Whole.{Whole}
-use Rattle.whole.specs.Whole.{Planned}
-use Rattle.whole.proofs.Unique.{plan-unique}
+use Rattle.planning.specs.declared.Plan.{Plan}
+use Rattle.planning.specs.Plan.{Planned}
+use Rattle.planning.proofs.Unique.{plan-unique}
 use Rattle.layout.specs.Words.{WORDS, wordsOf}
 use Rattle.layout.specs.Read.{graphOf}
 use Rattle.layout.specs.Laws.{length-words, graph-back}
@@ -27,24 +27,24 @@ pub reads-one : {text : List ℕ} {t u : Table} → Reads text t → Reads text 
 reads-one p q = ap (λ (r : Reading). r .table) (told-one p q)
 
 -- what is stored was left by a table
-pub stored-leaves : (words : List ℕ) → Stored words → (t : Table) × (w : Whole) × Leaves t w words
+pub stored-leaves : (words : List ℕ) → Stored words → (t : Table) × (w : Plan) × Leaves t w words
 stored-leaves words (text, before, p) = go p refl
   where
-    go : {a : Answer} {after : List ℕ} → Plans text before a after → a ≡ Accepted → (t : Table) × (w : Whole) × Leaves t w after
+    go : {a : Answer} {after : List ℕ} → Plans text before a after → a ≡ Accepted → (t : Table) × (w : Plan) × Leaves t w after
     go (wrong-length n) e = let z : _≡_ {A = ℕ} 0 1 = cc in absurd (omega arith)
     go (not-read l r) e = let z : _≡_ {A = ℕ} 0 1 = cc in absurd (omega arith)
     go (not-planned l r p) e = let z : _≡_ {A = ℕ} 0 1 = cc in absurd (omega arith)
     go (accepted {t} {w} l r p) e = (t, w, record { text = text; reads = r; planned = p; left = refl })
 
-pub leaves-stored : {t : Table} {w : Whole} {words : List ℕ} → Leaves t w words → Stored words
+pub leaves-stored : {t : Table} {w : Plan} {words : List ℕ} → Leaves t w words → Stored words
 leaves-stored {t} {w} {words} l =
     (l .text, words, subst (Plans (l .text) words Accepted) (sym (l .left)) (accepted (ap length (l .left) ∙ length-words t w) (l .reads) (l .planned)))
 
 -- the table that words hold, where it is proper and its plan leaves them
-pub holds-leaves : (t : Table) (w : Whole) (words : List ℕ) → ProperTable t → Planned t w → words ≡ wordsOf t w → Leaves t w words
+pub holds-leaves : (t : Table) (w : Plan) (words : List ℕ) → ProperTable t → Planned t w → words ≡ wordsOf t w → Leaves t w words
 holds-leaves t w words proper p e = record { text = written t; reads = written-reads t proper; planned = p; left = e }
 
-module _ {t : Table} {w : Whole} {words : List ℕ} (l : Leaves t w words) where
+module _ {t : Table} {w : Plan} {words : List ℕ} (l : Leaves t w words) where
   pub leaves-proper : ProperTable t
   leaves-proper = reads-proper (l .text) t (l .reads)
 
@@ -55,29 +55,29 @@ module _ {t : Table} {w : Whole} {words : List ℕ} (l : Leaves t w words) where
   leaves-graph = ap graphOf (l .left) ∙ graph-back t w leaves-proper
 
 -- what is stored is left by the table that it holds
-pub stored-held : {words : List ℕ} {t : Table} → t ≡ graphOf words → Stored words → (w : Whole) × Leaves t w words
+pub stored-held : {words : List ℕ} {t : Table} → t ≡ graphOf words → Stored words → (w : Plan) × Leaves t w words
 stored-held {words} {t} e s =
     let (u, w, l) = stored-leaves words s in
     (w, subst (λ (x : Table). Leaves x w words) (sym (leaves-graph l) ∙ sym e) l)
 
 -- words are left by one table only, with one plan
-pub leaves-table : {t u : Table} {w v : Whole} {words : List ℕ} → Leaves t w words → Leaves u v words → t ≡ u
+pub leaves-table : {t u : Table} {w v : Plan} {words : List ℕ} → Leaves t w words → Leaves u v words → t ≡ u
 leaves-table p q = sym (leaves-graph p) ∙ leaves-graph q
 
-pub leaves-whole : {t u : Table} {w v : Whole} {words : List ℕ} → Leaves t w words → Leaves u v words → w ≡ v
-leaves-whole {t} {u} {w} {v} p q = plan-unique u w v (subst (λ (x : Table). Planned x w) (leaves-table p q) (p .planned)) (q .planned)
+pub leaves-plan : {t u : Table} {w v : Plan} {words : List ℕ} → Leaves t w words → Leaves u v words → w ≡ v
+leaves-plan {t} {u} {w} {v} p q = plan-unique u w v (subst (λ (x : Table). Planned x w) (leaves-table p q) (p .planned)) (q .planned)
 
 pub recalls-unique : {words : List ℕ} {x y : Recalled} → Recalls words x → Recalls words y → x ≡ y
 recalls-unique (not-stored n) (not-stored m) = refl
 recalls-unique (not-stored n) (stored l) = absurd (n (leaves-stored l))
 recalls-unique (stored l) (not-stored n) = absurd (n (leaves-stored l))
-recalls-unique (stored p) (stored q) = ap₂ (λ (t : Table) (w : Whole). record { good = true; table = t; whole = w }) (leaves-table p q) (leaves-whole p q)
+recalls-unique (stored p) (stored q) = ap₂ (λ (t : Table) (w : Plan). record { good = true; table = t; plan = w }) (leaves-table p q) (leaves-plan p q)
 
 -- what is recalled tells whether the words are stored, and what leaves them
 pub recalls-decides : {words : List ℕ} {x : Recalled} → Recalls words x → Decides (Stored words) (x .good)
 recalls-decides (not-stored n) = decides-no n
 recalls-decides (stored l) = decides-yes (leaves-stored l)
 
-pub recalls-leaves : {words : List ℕ} {x : Recalled} → Recalls words x → x .good ≡ true → Leaves (x .table) (x .whole) words
+pub recalls-leaves : {words : List ℕ} {x : Recalled} → Recalls words x → x .good ≡ true → Leaves (x .table) (x .plan) words
 recalls-leaves (not-stored n) e = let z : _≡_ {A = ℕ} 0 1 = cc in absurd (omega arith)
 recalls-leaves (stored l) e = l

@@ -11,10 +11,10 @@ use Rattle.tables.specs.declared.Table.{Table}
 use Rattle.tables.specs.Shape.{emptyTable}
 use Rattle.reader.specs.declared.Answer.the-variants.{Read, Refused as NotRead}
 use Rattle.reader.specs.Told.{Told}
-use Rattle.whole.specs.declared.Whole.{Whole}
-use Rattle.whole.specs.declared.Answer.the-variants.{Refused as NotPlanned}
-use Rattle.whole.specs.Nothing.{emptyWhole}
-use Rattle.whole.specs.Whole.{Planned, Planning}
+use Rattle.planning.specs.declared.Plan.{Plan}
+use Rattle.planning.specs.declared.Answer.the-variants.{Refused as NotPlanned}
+use Rattle.planning.specs.Nothing.{emptyPlan}
+use Rattle.planning.specs.Plan.{Planned, Planning}
 use Rattle.layout.specs.Words.{WORDS, wordsOf}
 use Rattle.printer.specs.Printed.{PRINTED, planText, Shows}
 use Rattle.planner.specs.declared.Answer.{Answer}
@@ -38,15 +38,15 @@ pub data Plans (text before : List ℕ) : Answer → List ℕ → Type 0 where
   not-read : {r : Refusal} → length before ≡ WORDS → Told text (record { answer = NotRead r; table = emptyTable })
       → Plans text before (Refused r) before
   not-planned : {t : Table} {r : Refusal} → length before ≡ WORDS → Reads text t
-      → Planning t (record { answer = NotPlanned r; whole = emptyWhole }) → Plans text before (Refused r) before
-  accepted : {t : Table} {w : Whole} → length before ≡ WORDS → Reads text t → Planned t w → Plans text before Accepted (wordsOf t w)
+      → Planning t (record { answer = NotPlanned r; plan = emptyPlan }) → Plans text before (Refused r) before
+  accepted : {t : Table} {w : Plan} → length before ≡ WORDS → Reads text t → Planned t w → Plans text before Accepted (wordsOf t w)
 
 -- Words that some accepted table leaves.
 abbrev pub Stored : List ℕ → Type 0
 Stored words = (text before : List ℕ) × Plans text before Accepted words
 
 -- The table t of some text, with what is planned of it, leaves these words.
-pub record Leaves (t : Table) (w : Whole) (words : List ℕ) : Type 0 where
+pub record Leaves (t : Table) (w : Plan) (words : List ℕ) : Type 0 where
   pub text : List ℕ
   pub reads : Reads text t
   pub planned : Planned t w
@@ -54,15 +54,15 @@ pub record Leaves (t : Table) (w : Whole) (words : List ℕ) : Type 0 where
 
 -- What is recalled of some words: nothing where no accepted table leaves them; else the table and its plan.
 abbrev pub forgotten : Recalled
-forgotten = record { good = false; table = emptyTable; whole = emptyWhole }
+forgotten = record { good = false; table = emptyTable; plan = emptyPlan }
 
 pub data Recalls (words : List ℕ) : Recalled → Type 0 where
   not-stored : (Stored words → ⊥) → Recalls words forgotten
-  stored : {t : Table} {w : Whole} → Leaves t w words → Recalls words (record { good = true; table = t; whole = w })
+  stored : {t : Table} {w : Plan} → Leaves t w words → Recalls words (record { good = true; table = t; plan = w })
 
 -- What is printed of some words into a buffer of bytes: 15, and the bytes as they stood, where its length is another or no accepted table leaves the words.
 pub data Prints (words before : List ℕ) : Printing → List ℕ → Type 0 where
   no-room : (length before ≡ PRINTED → ⊥) → Prints words before (NotPrinted noPlan) before
   not-stored : length before ≡ PRINTED → (Stored words → ⊥) → Prints words before (NotPrinted noPlan) before
-  printed : {t : Table} {w : Whole} {after : List ℕ} {n : ℕ} → length before ≡ PRINTED → Leaves t w words → Shows (planText t w) after n
+  printed : {t : Table} {w : Plan} {after : List ℕ} {n : ℕ} → length before ≡ PRINTED → Leaves t w words → Shows (planText t w) after n
       → Prints words before (Printed n) after

@@ -1,13 +1,13 @@
 // The planner: a table into the caller's words, the plan that words hold, and what is printed of one.
 use layout::WORDS;
+use planning::Plan;
+use planning::plan_of;
 use printer::PRINTED;
 use tables::Table;
 use tables::proper::proper;
 use terms::refusal::NO_PLAN;
 use terms::refusal::Place;
 use terms::refusal::Refusal;
-use whole::Whole;
-use whole::plan_of;
 ghost use mathlib.Core.Path.{_≡_};
 ghost use Rattle.planner.specs.Plans.{noPlan, Plans, Recalls, forgotten, Prints};
 
@@ -21,7 +21,7 @@ pub enum Answer {
 pub struct Recalled {
     pub good: bool,
     pub table: Table,
-    pub whole: Whole,
+    pub plan: Plan,
 }
 
 // How many bytes were printed.
@@ -55,11 +55,11 @@ pub fn plan(text: &[u8], words: &mut [u64]) -> Answer
     let table = reading.table;
     let outcome = plan_of(table);
     let planned = outcome.answer;
-    if let whole::Answer::Refused(refusal) = planned {
+    if let planning::Answer::Refused(refusal) = planned {
         return Answer::Refused(refusal);
     }
-    let whole = outcome.whole;
-    layout::write(table, whole, words);
+    let plan = outcome.plan;
+    layout::write(table, plan, words);
     Answer::Accepted
 }
 
@@ -69,7 +69,7 @@ fn forget() -> Recalled
     Recalled {
         good: false,
         table: tables::empty(),
-        whole: whole::empty(),
+        plan: planning::empty(),
     }
 }
 
@@ -86,17 +86,17 @@ pub fn recall(words: &[u64]) -> Recalled
     }
     let outcome = plan_of(table);
     let planned = outcome.answer;
-    if let whole::Answer::Refused(refusal) = planned {
+    if let planning::Answer::Refused(refusal) = planned {
         return forget();
     }
-    let whole = outcome.whole;
-    if !layout::holds(table, whole, words) {
+    let plan = outcome.plan;
+    if !layout::holds(table, plan, words) {
         return forget();
     }
     Recalled {
         good: true,
         table,
-        whole,
+        plan,
     }
 }
 
@@ -112,6 +112,6 @@ pub fn print(words: &[u64], out: &mut [u8]) -> Printing
         return Printing::Refused(no_plan());
     }
     let table = recalled.table;
-    let whole = recalled.whole;
-    Printing::Printed(printer::print(table, whole, out))
+    let plan = recalled.plan;
+    Printing::Printed(printer::print(table, plan, out))
 }

@@ -21,9 +21,9 @@ use Rattle.tables.specs.declared.Table.{Table}
 use Rattle.csv.specs.Decimal.{decimal}
 use Rattle.csv.specs.Writing.{joined}
 use Rattle.change.specs.declared.Timing.{Timing}
-use Rattle.whole.specs.declared.Part.{Part}
-use Rattle.whole.specs.declared.Whole.{Whole}
-use Rattle.whole.specs.Whole.{partAt}
+use Rattle.planning.specs.declared.ModePlan.{ModePlan}
+use Rattle.planning.specs.declared.Plan.{Plan}
+use Rattle.planning.specs.Plan.{partAt}
 use Rattle.printer.specs.declared.bytes.Five.{Five}
 use Rattle.printer.specs.Texts.{texts}
 use Rattle.printer.specs.Printed.{lineText, five, actorText, channelText, changeText, actorsText, channelsText, modeText, fromText, changesText, modesText, activeOf, planText, printedText}
@@ -97,7 +97,7 @@ texts-but f b o (suc n) l e h = go (leb n o) refl (λ k. texts-but f b o n k e (
         omega (arith, z, texts-most f b n (λ i l. h i (omega arith)), length-append (texts f n) (f n))
     go false g ih = omega (arith, ih (omega (arith, leb-false n o g)), h n (omega arith), length-append (texts f n) (f n))
 
-module _ (m : ℕ) (M : Mode) (p : Part) (h : m < MODES) (s : SmallPart M p) where
+module _ (m : ℕ) (M : Mode) (p : ModePlan) (h : m < MODES) (s : SmallPart M p) where
   actor-most : (i : ℕ) → i < ACTORS → length (actorText m (M .active) i (firingsAt p i) (periodAt p i) (startAt p i)) ≤ ACTOR-LINE
   actor-most i l =
       cond-most (hasb (M .active) i) _ ACTOR-LINE
@@ -144,7 +144,7 @@ module _ (active : List ℕ) (cs : List Timing) (small : (o n : ℕ) → o < MOD
       omega arith
 
 -- a plan fits the buffer
-pub plan-fits : (t : Table) (w : Whole) → Small t w → length (planText t w) ≤ PRINTED
+pub plan-fits : (t : Table) (w : Plan) → Small t w → length (planText t w) ≤ PRINTED
 plan-fits t w s =
     let a : length (modesText t w) ≤ MODES * (ACTORS * ACTOR-LINE + CHANNELS * CHANNEL-LINE) =
     texts-most _ (ACTORS * ACTOR-LINE + CHANNELS * CHANNEL-LINE) MODES (λ m l. mode-most m (modeAt t m) (partAt w m) l (s .parts m l))

@@ -29,27 +29,27 @@ use Rattle.tables.specs.declared.Table.{Table}
 use Rattle.csv.specs.Decimal.{decimal}
 use Rattle.csv.specs.Writing.{joined}
 use Rattle.change.specs.declared.Timing.{Timing}
-use Rattle.whole.specs.declared.Part.{Part}
-use Rattle.whole.specs.declared.Whole.{Whole}
-use Rattle.whole.specs.Nothing.{noTiming}
-use Rattle.whole.specs.Whole.{partAt}
+use Rattle.planning.specs.declared.ModePlan.{ModePlan}
+use Rattle.planning.specs.declared.Plan.{Plan}
+use Rattle.planning.specs.Nothing.{noTiming}
+use Rattle.planning.specs.Plan.{partAt}
 use Rattle.printer.specs.declared.bytes.Five.{Five}
 use Rattle.printer.specs.Texts.{texts}
 
 -- what is planned of an actor at place i and of a channel at place k of a mode
-abbrev pub firingsAt : Part → ℕ → Firing
+abbrev pub firingsAt : ModePlan → ℕ → Firing
 firingsAt p i = getD (p .firings) i (firing 0)
 
-abbrev pub periodAt : Part → ℕ → Tick
+abbrev pub periodAt : ModePlan → ℕ → Tick
 periodAt p i = getD (p .periods) i (tick 0)
 
-abbrev pub startAt : Part → ℕ → Tick
+abbrev pub startAt : ModePlan → ℕ → Tick
 startAt p i = getD (p .starts) i (tick 0)
 
-abbrev pub sizeAt : Part → ℕ → Token
+abbrev pub sizeAt : ModePlan → ℕ → Token
 sizeAt p k = getD (p .sizes) k (token 0)
 
-abbrev pub tokensAt : Part → ℕ → Token
+abbrev pub tokensAt : ModePlan → ℕ → Token
 tokensAt p k = getD (p .tokens) k (token 0)
 
 -- the change from the mode at place o to the one at place n
@@ -80,13 +80,13 @@ changeText o n old new t =
     []
 
 -- a mode: its actors in ascending order, then its channels in the order in which they are listed
-abbrev pub actorsText : ℕ → Mode → Part → List ℕ
+abbrev pub actorsText : ℕ → Mode → ModePlan → List ℕ
 actorsText m M p = texts (λ i. actorText m (M .active) i (firingsAt p i) (periodAt p i) (startAt p i)) ACTORS
 
-abbrev pub channelsText : ℕ → Mode → Part → List ℕ
+abbrev pub channelsText : ℕ → Mode → ModePlan → List ℕ
 channelsText m M p = texts (λ k. channelText m (channelAt M k) (sizeAt p k) (tokensAt p k)) (M .count)
 
-abbrev pub modeText : ℕ → Mode → Part → List ℕ
+abbrev pub modeText : ℕ → Mode → ModePlan → List ℕ
 modeText m M p = actorsText m M p ++ channelsText m M p
 
 -- the changes, by the old mode and then by the new one
@@ -97,7 +97,7 @@ abbrev pub changesText : List ℕ → List Timing → List ℕ
 changesText active cs = texts (fromText active cs) MODES
 
 -- the modes in ascending order
-abbrev pub modesText : Table → Whole → List ℕ
+abbrev pub modesText : Table → Plan → List ℕ
 modesText t w = texts (λ m. modeText m (modeAt t m) (partAt w m)) MODES
 
 -- the active sets of a table's modes: a mode is listed where its set is not empty
@@ -105,7 +105,7 @@ abbrev pub activeOf : Table → List ℕ
 activeOf t = tab MODES (λ m. modeAt t m .active)
 
 -- what is printed of a plan: the modes, and then the changes
-abbrev pub planText : Table → Whole → List ℕ
+abbrev pub planText : Table → Plan → List ℕ
 planText t w = modesText t w ++ changesText (activeOf t) (w .changes)
 
 -- what is printed of a refusal: one line
@@ -130,7 +130,7 @@ abbrev pub PRINTED : ℕ
 PRINTED = MODES * (ACTORS * ACTOR-LINE + CHANNELS * CHANNEL-LINE) + MODES * ((MODES - 1) * CHANGE-LINE)
 
 -- numbers within these limits
-pub record SmallPart (M : Mode) (p : Part) : Type 0 where
+pub record SmallPart (M : Mode) (p : ModePlan) : Type 0 where
   pub count : M .count ≤ CHANNELS
   pub from : (k : ℕ) → k < M .count → channelAt M k .from < ACTORS
   pub to : (k : ℕ) → k < M .count → channelAt M k .to < ACTORS
@@ -145,7 +145,7 @@ pub record SmallTiming (t : Timing) : Type 0 where
   pub offset : t .offset .0 ≤ MOST-START .0
   pub worst : t .worst .0 ≤ MOST-DELAY .0
 
-pub record Small (t : Table) (w : Whole) : Type 0 where
+pub record Small (t : Table) (w : Plan) : Type 0 where
   pub parts : (m : ℕ) → m < MODES → SmallPart (modeAt t m) (partAt w m)
   pub changes : (o n : ℕ) → o < MODES → n < MODES → SmallTiming (changeAt (w .changes) o n)
 

@@ -3,13 +3,13 @@ mod bytes;
 mod lines;
 
 use crate::bytes::Five;
+use planning::Plan;
 use tables::Table;
 use terms::refusal::Refusal;
 use units::digits;
 use units::limits::ACTORS;
 use units::limits::CHANNELS;
 use units::limits::MODES;
-use whole::Whole;
 ghost use mathlib.Core.Path.{_≡_};
 ghost use lib.ListN.{length};
 ghost use Rattle.csv.specs.Laid.{Room, Laid};
@@ -36,27 +36,27 @@ pub const PRINTED: usize = MODES * (ACTORS * ACTOR_LINE + CHANNELS * CHANNEL_LIN
     + MODES * ((MODES - 1) * CHANGE_LINE);
 
 // The modes, from the front of the buffer on.
-fn modes(out: &mut [u8], table: Table, whole: Whole) -> usize
-    requires { ⌜ Room (now out) 0 (modesText table whole) × Small table whole ⌝ }
-    ensures { λ r. ⌜ Laid (now (out .entry)) 0 (modesText table whole) (now (out .exit)) r ⌝ }
+fn modes(out: &mut [u8], table: Table, plan: Plan) -> usize
+    requires { ⌜ Room (now out) 0 (modesText table plan) × Small table plan ⌝ }
+    ensures { λ r. ⌜ Laid (now (out .entry)) 0 (modesText table plan) (now (out .exit)) r ⌝ }
 {
     let mut at: usize = 0;
     for m in 0..MODES {
         let mode = table.modes[m];
-        let part = whole.parts[m];
+        let part = plan.parts[m];
         at = lines::mode(out, at, m, mode, part);
     }
     at
 }
 
 // Prints a plan, and returns the length of its text.
-pub fn print(table: Table, whole: Whole, out: &mut [u8]) -> usize
-    requires { ⌜ (length (now out) ≡ PRINTED-LIMIT) × Small table whole ⌝ }
-    ensures { λ r. ⌜ Shows (planText table whole) (now (out .exit)) r ⌝ }
+pub fn print(table: Table, plan: Plan, out: &mut [u8]) -> usize
+    requires { ⌜ (length (now out) ≡ PRINTED-LIMIT) × Small table plan ⌝ }
+    ensures { λ r. ⌜ Shows (planText table plan) (now (out .exit)) r ⌝ }
 {
     let active = lines::active_of(table);
-    let changes = whole.changes;
-    let at = modes(out, table, whole);
+    let changes = plan.changes;
+    let at = modes(out, table, plan);
     let end = lines::changes(out, at, active, changes);
     bytes::blank(out, end);
     end

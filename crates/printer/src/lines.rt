@@ -3,6 +3,7 @@ use crate::bytes::Five;
 use crate::bytes::line;
 use bits::has;
 use change::Timing;
+use planning::ModePlan;
 use tables::Channel;
 use tables::Mode;
 use tables::Table;
@@ -12,7 +13,6 @@ use units::Tick;
 use units::Token;
 use units::limits::ACTORS;
 use units::limits::MODES;
-use whole::Part;
 ghost use mathlib.Core.Path.{_≡_};
 ghost use Prim.Native.Nat.{_*_, _<_};
 ghost use lib.ListN.{length};
@@ -48,7 +48,7 @@ fn actor(
 }
 
 // The actors of a mode.
-fn actors(out: &mut [u8], from: usize, m: usize, mode: Mode, part: Part) -> usize
+fn actors(out: &mut [u8], from: usize, m: usize, mode: Mode, part: ModePlan) -> usize
     requires { ⌜ Room (now out) from (actorsText m mode part) × (m < MODES-LIMIT) ⌝ }
     ensures { λ r. ⌜ Laid (now (out .entry)) from (actorsText m mode part) (now (out .exit)) r ⌝ }
 {
@@ -91,7 +91,7 @@ fn channel(
 }
 
 // The channels of a mode.
-fn channels(out: &mut [u8], from: usize, m: usize, mode: Mode, part: Part) -> usize
+fn channels(out: &mut [u8], from: usize, m: usize, mode: Mode, part: ModePlan) -> usize
     requires { ⌜ Room (now out) from (channelsText m mode part) × (m < MODES-LIMIT) × SmallPart mode part ⌝ }
     ensures { λ r. ⌜ Laid (now (out .entry)) from (channelsText m mode part) (now (out .exit)) r ⌝ }
 {
@@ -103,7 +103,7 @@ fn channels(out: &mut [u8], from: usize, m: usize, mode: Mode, part: Part) -> us
 }
 
 // A mode: its actors, then its channels.
-pub(crate) fn mode(out: &mut [u8], at: usize, m: usize, mode: Mode, part: Part) -> usize
+pub(crate) fn mode(out: &mut [u8], at: usize, m: usize, mode: Mode, part: ModePlan) -> usize
     requires { ⌜ Room (now out) at (modeText m mode part) × (m < MODES-LIMIT) × SmallPart mode part ⌝ }
     ensures { λ r. ⌜ Laid (now (out .entry)) at (modeText m mode part) (now (out .exit)) r ⌝ }
 {

@@ -8,7 +8,7 @@ use mathlib.Core.List.{List, [], _∷_}
 use lib.Dec.{T, leb, leb→le, ltb→lt, lt→ltb}
 use lib.Ieee.Fits.{and-l, and-r}
 use Rattle.numbers.specs.Every.{Every}
-use Rattle.run.specs.Plan.{Plan, Acts}
+use Rattle.run.specs.Plan.{RunPlan, Acts}
 use Rattle.run.specs.Machine.{Machine, Request, refusal, leaving, Leave, stays, leaves, Visit, visit, visits, begin, run}
 use Rattle.run.specs.Firing.{begins, fires, underWay, isOpen, tally, total, openIn}
 use Rattle.run.specs.Demand.{EveryRun}
@@ -19,10 +19,10 @@ use Rattle.run.proofs.Load.{works, work-le, works-open, under-open}
 use Rattle.run.proofs.Links.{Link, Good, linked, all-good, at-most, two-open, one-open}
 
 -- how many firings of actor i of a visit are under way at tick t
-unfoldable pub busy : Plan → ℕ → ℕ → Visit → ℕ
+unfoldable pub busy : RunPlan → ℕ → ℕ → Visit → ℕ
 busy p i t v = cond (p .active (v .mode) i) (tally (underWay p v i t) (λ n. 1) (suc t)) 0
 
-module _ (p : Plan) (ok : Sound p) where
+module _ (p : RunPlan) (ok : Sound p) where
   -- at any tick at most two visits are under way ..
   pub two-visits : EveryRun p (λ s. (t : ℕ) → total (visits s) (λ v. cond (isOpen p t v) 1 0) ≤ 2)
   two-visits m start rs t = two-open p t (linked p ok m start rs)

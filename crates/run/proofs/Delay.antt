@@ -11,7 +11,7 @@ use lib.Arith.{le→nltb}
 use Rattle.numbers.specs.Extreme.{least-unique}
 use Rattle.numbers.specs.Quotient.{roundedOf, rounded-of}
 use Rattle.units.specs.Limits.{CLOCK-LIMIT}
-use Rattle.run.specs.Plan.{Plan, sinkStart}
+use Rattle.run.specs.Plan.{RunPlan, sinkStart}
 use Rattle.run.specs.Machine.{Machine, Request, refusal, leaving, delay, worst, Run, answer}
 use Rattle.run.specs.Demand.{place, sinkSet}
 use Rattle.run.proofs.Sound.{Sound}
@@ -30,7 +30,7 @@ gap h x pos = go (x % h) refl
         rw (ne-eqb (x % h) 0 (λ z. omega arith), b) (omega (arith, div-add-mod x h, mod-lt x pos, mul-add h (x / h) 1))
 
 -- what an accepted request says
-pub record Accepted (p : Plan) (m : Machine) (r : Request) : Type 0 where
+pub record Accepted (p : RunPlan) (m : Machine) (r : Request) : Type 0 where
   pub old : T (p .listed (m .mode))
   pub new : T (p .listed (r .mode))
   pub other : r .mode ≢ m .mode
@@ -62,7 +62,7 @@ not-or-i : (a b : Bool) → T (not a) → T (not b) → T (not (a || b))
 not-or-i true b h k = h
 not-or-i false b h k = k
 
-module _ (p : Plan) (m : Machine) (r : Request) where
+module _ (p : RunPlan) (m : Machine) (r : Request) where
   pub accepted : refusal p m r ≡ 0 → Accepted p m r
   unfolding refusal
   accepted h =
@@ -92,10 +92,10 @@ module _ (p : Plan) (m : Machine) (r : Request) where
       (cond-pass (ltb (r .tick) (m .ended)) 14 0 (le→nltb (r .tick) (m .ended) (a .settled)) refl))))
 
 -- the delay as a function of the two modes and the place
-abbrev pub delayAt : Plan → ℕ → ℕ → ℕ → ℕ
+abbrev pub delayAt : RunPlan → ℕ → ℕ → ℕ → ℕ
 delayAt p o l x = p .offset o l + sinkStart p l + (p .iteration o - x) % p .iteration o
 
-module _ (p : Plan) (ok : Sound p) where
+module _ (p : RunPlan) (ok : Sound p) where
   module _ (m : Machine) (r : Request) (h : refusal p m r ≡ 0) where
     pub leaving-is : leaving p m r ≡ r .tick + (p .iteration (m .mode) - place p m r) % p .iteration (m .mode)
     leaving-is =

@@ -1,7 +1,7 @@
 -- Demand 3, of every plan that the planner shows to be sound. Assumes nothing.
 use Prim.Native.Nat.{zero-le}
 use Rattle.numbers.specs.Every.{Every}
-use Rattle.run.specs.Plan.{Plan}
+use Rattle.run.specs.Plan.{RunPlan}
 use Rattle.run.specs.Machine.{visits, begin, run}
 use Rattle.run.specs.Demand.{EveryRun, Demand3}
 use Rattle.run.specs.Firing.{Ends, InPeriod}
@@ -11,7 +11,7 @@ use Rattle.run.proofs.Links.{linked, all-good, others-closed}
 use Rattle.run.proofs.Buffers as Buffers
 use Rattle.run.proofs.Processors as Processors
 
-pub demand-3 : (p : Plan) → Sound p → Demand3 p
+pub demand-3 : (p : RunPlan) → Sound p → Demand3 p
 demand-3 p ok = record {
   no-missing = λ e m start rs timely k c t i. Buffers.no-missing p ok e k c t i (visits (run p (begin p m) rs)) (fine e m start rs timely);
   no-borrowing = λ e m start rs timely c t. Buffers.no-borrowing p ok e c t (visits (run p (begin p m) rs)) (fine e m start rs timely);

@@ -10,7 +10,7 @@ use lib.Dec.{T, leb, eqb, leb→le, ltb→lt, eqb→eq}
 use lib.Ieee.Fits.{and-l, and-r}
 use Rattle.numbers.specs.Every.{Every}
 use Rattle.numbers.specs.Quotient.{roundedOf}
-use Rattle.run.specs.Plan.{Plan, startup}
+use Rattle.run.specs.Plan.{RunPlan, startup}
 use Rattle.run.specs.Machine.{Machine, Request, refusal, leaving, next, Leave, stays, leaves, Visit, visit, Run, begin, answer, run}
 use Rattle.run.specs.Firing.{isOpen, total, openIn}
 use Rattle.run.specs.Demand.{EveryRun}
@@ -20,7 +20,7 @@ use Rattle.run.proofs.Delay.{accepted, leaving-is}
 use Rattle.run.proofs.Tokens.{Whole}
 
 -- machine b was left at f, and machine c came after it
-pub record Link (p : Plan) (b : Machine) (f : ℕ) (c : Machine) : Type 0 where
+pub record Link (p : RunPlan) (b : Machine) (f : ℕ) (c : Machine) : Type 0 where
   pub new : T (p .listed (c .mode))
   pub other : c .mode ≢ b .mode
   pub iterations : Whole (leaves f) (b .started) (p .iteration (b .mode))
@@ -29,15 +29,15 @@ pub record Link (p : Plan) (b : Machine) (f : ℕ) (c : Machine) : Type 0 where
   pub ended : f + startup p (b .mode) ≤ c .ended
 
 -- a machine and the visits before it
-pub data Linked (p : Plan) : Machine → List Visit → Type 0 where
+pub data Linked (p : RunPlan) : Machine → List Visit → Type 0 where
   first : {b : Machine} → T (p .listed (b .mode)) → Linked p b []
   later : {b c : Machine} {vs : List Visit} {f : ℕ} → Linked p b vs → Link p b f c → Linked p c (visit b (leaves f) ∷ vs)
 
 -- a visit of a listed mode, left after whole iterations
-abbrev pub Good : Plan → Visit → Type 0
+abbrev pub Good : RunPlan → Visit → Type 0
 Good p v = T (p .listed (v .mode)) × Whole (v .leave) (v .start) (p .iteration (v .mode))
 
-module _ (p : Plan) where
+module _ (p : RunPlan) where
   is-listed : {c : Machine} {vs : List Visit} → Linked p c vs → T (p .listed (c .mode))
   is-listed (first h) = h
   is-listed (later lk k) = k .new
@@ -49,7 +49,7 @@ module _ (p : Plan) where
   pub all-good : {c : Machine} {vs : List Visit} → Linked p c vs → Every (Good p) (visit c stays ∷ vs)
   all-good lk = ((is-listed lk, tt), past-good lk)
 
-module _ (p : Plan) (ok : Sound p) where
+module _ (p : RunPlan) (ok : Sound p) where
   -- every run is linked
   link : (m : Machine) (r : Request) → refusal p m r ≡ 0 → Link p m (leaving p m r) (next p m r)
   link m r h =
@@ -85,7 +85,7 @@ module _ (p : Plan) (ok : Sound p) where
   pub linked : EveryRun p (λ s. Linked p (s .now) (s .past))
   linked m start rs = run-linked (begin p m) rs (first start)
 
-module _ (p : Plan) (t : ℕ) where
+module _ (p : RunPlan) (t : ℕ) where
   -- the visits before a change are over when it has ended
   abbrev Closed : Visit → Type 0
   Closed v = T (isOpen p t v) → ⊥
@@ -148,7 +148,7 @@ in-one m a b x y n d hx hy = go (eqb a m) (eqb b m) (λ u. eqb→eq a m u) (λ u
     go false true f g = omega (arith, hy (g tt))
     go false false f g = zero-le
 
-module _ (p : Plan) (m t : ℕ) where
+module _ (p : RunPlan) (m t : ℕ) where
   pub one-open : {c : Machine} {vs : List Visit} → Linked p c vs → openIn p (visit c stays ∷ vs) m t ≤ 1
   one-open lk = at-most p t (Good p) (λ v. cond (eqb (v .mode) m) (cond (isOpen p t v) 1 0) 0) 1
       (λ v _ h. if-none (eqb (v .mode) m) _ (λ _. if-none (isOpen p t v) 1 (λ u. absurd (h u))))

@@ -11,7 +11,7 @@ use Rattle.numbers.specs.Sum.{sum, sum-le, sum-none}
 use Rattle.numbers.specs.Fraction.{Proper, AtMost, Same, plus, sum-proper, sum-common, nothing}
 use Rattle.numbers.specs.declared.fraction.Fraction.{Fraction}
 use Rattle.units.specs.Limits.{LOAD-LIMIT}
-use Rattle.run.specs.Plan.{Plan, Acts, startup, isOn, askedBy}
+use Rattle.run.specs.Plan.{RunPlan, Acts, startup, isOn, askedBy}
 use Rattle.run.specs.Machine.{Leave, stays, leaves, Visit}
 use Rattle.run.specs.Firing.{fires, underWay, before, isOpen, tally, asks}
 use Rattle.run.proofs.Sound.{Sound, askedOf}
@@ -19,10 +19,10 @@ use Rattle.run.proofs.Tallies.{if-le, if-none, tally-one, tally-none}
 use Rattle.run.proofs.Tokens.{at, Whole, inside-k, k-inside}
 
 -- actor i of a visit has begun at tick t, and not ended
-abbrev pub works : Plan → Visit → ℕ → ℕ → Bool
+abbrev pub works : RunPlan → Visit → ℕ → ℕ → Bool
 works p v i t = leb (v .start + p .start (v .mode) i) t && before (v .leave) (p .start (v .mode) i) t
 
-module _ (p : Plan) (ok : Sound p) (m s : ℕ) (yes-listed : T (p .listed m)) where
+module _ (p : RunPlan) (ok : Sound p) (m s : ℕ) (yes-listed : T (p .listed m)) where
   -- an actor with a firing under way is at work, and has only one
   under-works : (l : Leave) → Whole l s (p .iteration m) → (i n t : ℕ) → Acts p m i → T (underWay p (at m s l) i t n) → T (works p (at m s l) i t)
   under-works stays w i n t st u =
@@ -92,21 +92,21 @@ whole-part : (D : ℕ) (a : Fraction) (n : ℕ) → Proper a → Same a (partsOf
 whole-part D a n pos e le = le-of-mul-le-mul-right {k = a .under} (omega (arith, e, mul-le-mul-right D le)) pos
 
 -- every iteration of a listed mode divides D
-abbrev pub Common : Plan → ℕ → Type 0
+abbrev pub Common : RunPlan → ℕ → Type 0
 Common p D = (m : ℕ) → T (p .listed m) → p .iteration m ∣ D
 
 -- what a firing of an actor asks, in parts of D
-abbrev pub share : Plan → ℕ → ℕ → ℕ → ℕ
+abbrev pub share : RunPlan → ℕ → ℕ → ℕ → ℕ
 share p D m i = p .wcet m i * (D / p .period m i)
 
 -- what a visit asks, and what the actors ask that count
-unfoldable pub parts : Plan → ℕ → ℕ → ℕ → Visit → ℕ
+unfoldable pub parts : RunPlan → ℕ → ℕ → ℕ → Visit → ℕ
 parts p D proc t v = sum (λ i. cond (isOn p (v .mode) proc i) (tally (underWay p v i t) (λ n. share p D (v .mode) i) (suc t)) 0) (p .actors)
 
-abbrev pub loadOf : Plan → ℕ → ℕ → ℕ → (ℕ → Bool) → ℕ
+abbrev pub loadOf : RunPlan → ℕ → ℕ → ℕ → (ℕ → Bool) → ℕ
 loadOf p D m proc counts = sum (λ i. cond (isOn p m proc i && counts i) (share p D m i) 0) (p .actors)
 
-module _ (p : Plan) (ok : Sound p) (D : ℕ) (common : Common p D) where
+module _ (p : RunPlan) (ok : Sound p) (D : ℕ) (common : Common p D) where
   module _ (m : ℕ) (yes-listed : T (p .listed m)) where
     pub period-divides : (i : ℕ) → Acts p m i → D / p .period m i * p .period m i ≡ D
     period-divides i a =

@@ -7,7 +7,7 @@ use lib.ListN.{getD}
 use lib.Dec.{eqb, ltb}
 use Rattle.numbers.specs.Sum.{sum}
 use Rattle.numbers.specs.Fraction.{Same, sumOf}
-use Rattle.run.specs.Plan.{Plan}
+use Rattle.run.specs.Plan.{RunPlan}
 use Rattle.run.specs.Machine.{Machine, Request, refusal, delay, worst, stays, leaves, Run, visits, begin, answer, run}
 use Rattle.run.specs.Firing.{begins, Ends, tally, begun, done, claimed, givenBack, total, totalIn, asks, asked}
 
@@ -15,7 +15,7 @@ use Rattle.run.specs.Firing.{begins, Ends, tally, begun, done, claimed, 
 abbrev by : List ℕ → List ℕ → ℕ → ℕ → ℕ
 by one two m i = getD (cond (eqb m 1) one two) i 0
 
-abbrev printed : Plan
+abbrev printed : RunPlan
 printed = record {
   listed = λ m. eqb m 1 || eqb m 2;
   actors = 6;

@@ -11,7 +11,7 @@ use lib.Ieee.Fits.{and-l, and-r}
 use Rattle.numbers.specs.Every.{Every}
 use Rattle.numbers.specs.Fraction.{AtMost, Same}
 use Rattle.units.specs.Limits.{LOAD-LIMIT}
-use Rattle.run.specs.Plan.{Plan, startup}
+use Rattle.run.specs.Plan.{RunPlan, startup}
 use Rattle.run.specs.Machine.{Machine, Leave, stays, leaves, Visit, visit}
 use Rattle.run.specs.Firing.{total, asks, asked}
 use Rattle.run.proofs.Sound.{Sound}
@@ -20,11 +20,11 @@ use Rattle.run.proofs.Load.{partsOf, part-none, part-plus, part-whole, 
 use Rattle.run.proofs.Links.{Linked, Link, Good, all-good, at-most}
 
 -- the product of all iterations of listed modes below n
-unfoldable product : Plan → ℕ → ℕ
+unfoldable product : RunPlan → ℕ → ℕ
 product p zero = 1
 product p (suc n) = product p n * cond (p .listed n) (p .iteration n) 1
 
-module _ (p : Plan) (ok : Sound p) where
+module _ (p : RunPlan) (ok : Sound p) where
   divides : (n m : ℕ) → m < n → T (p .listed m) → p .iteration m ∣ product p n
   unfolding product
   divides zero m l li = absurd (not-suc-le-zero l)

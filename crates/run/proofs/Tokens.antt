@@ -8,7 +8,7 @@ use native.Mathlib.Omega.{arith}
 use lib.Dec.{T, leb, ltb, leb→le, ltb→lt, le→leb, lt→ltb}
 use lib.Ieee.Fits.{and-l, and-r, and-i}
 use Rattle.numbers.specs.Sum.{sum, sum-more, sum-next}
-use Rattle.run.specs.Plan.{Plan, Acts, startup}
+use Rattle.run.specs.Plan.{RunPlan, Acts, startup}
 use Rattle.run.specs.Machine.{Leave, stays, leaves, Visit}
 use Rattle.run.specs.Firing.{begins, fires, before, isOpen, Ends, InPeriod, begun, done, taken, made, claimed, givenBack}
 use Rattle.run.proofs.Sound.{Sound, HaveBegun, HaveEnded}
@@ -22,7 +22,7 @@ Whole (leaves f) s h = (k : ℕ) × (f ≡ s + k * h)
 abbrev pub at : ℕ → ℕ → Leave → Visit
 at m s l = record { mode = m; start = s; leave = l }
 
-module _ (p : Plan) (ok : Sound p) (m s : ℕ) (yes-listed : T (p .listed m)) where
+module _ (p : RunPlan) (ok : Sound p) (m s : ℕ) (yes-listed : T (p .listed m)) where
   -- a firing's number is at most the ticks before it
   pub number : (i n : ℕ) → Acts p m i → n ≤ n * p .period m i
   number i n a = le-mul-of-pos-right n (ok .some-period m i yes-listed a)

@@ -9,7 +9,7 @@ use lib.Dec.{T, leb, ltb, eqb, leb→le, le→leb, lt→ltb}
 use lib.Ieee.Fits.{and-l, and-r, and-i}
 use Rattle.numbers.specs.Every.{Every}
 use Rattle.numbers.specs.Sum.{sum, sum-le, sum-most, sum-least, sum-times, sum-plus, sum-swap, sum-parts, sum-more}
-use Rattle.run.specs.Plan.{Plan, Acts, isOn}
+use Rattle.run.specs.Plan.{RunPlan, Acts, isOn}
 use Rattle.run.specs.Machine.{Visit, visits, begin, run}
 use Rattle.run.specs.Firing.{begins, fires, underWay, tally, total}
 use Rattle.run.specs.Demand.{EveryRun}
@@ -21,11 +21,11 @@ use Rattle.run.proofs.Links.{Good, all-good, linked}
 use Rattle.run.proofs.Processors.{D, D-pos, D-common, all-parts}
 
 -- firing n of an actor of a visit has its whole period in the window from tick a up to tick b
-abbrev pub within : Plan → Visit → ℕ → ℕ → ℕ → ℕ → Bool
+abbrev pub within : RunPlan → Visit → ℕ → ℕ → ℕ → ℕ → Bool
 within p v i a b n = fires p v i n && (leb a (begins p v i n) && leb (begins p v i n + p .period (v .mode) i) b)
 
 -- the ticks of a processor that such firings of a visit need: the wcet of each
-unfoldable pub needs : Plan → ℕ → ℕ → ℕ → Visit → ℕ
+unfoldable pub needs : RunPlan → ℕ → ℕ → ℕ → Visit → ℕ
 needs p proc a b v = sum (λ i. cond (isOn p (v .mode) proc i) (tally (within p v i a b) (λ n. p .wcet (v .mode) i) (suc b)) 0) (p .actors)
 
 -- where a test holds for k numbers in a row, from u on
@@ -45,7 +45,7 @@ over-ticks : (f : ℕ → ℕ) (g : ℕ → ℕ → ℕ) (D n k : ℕ) → ((i :
 over-ticks f g D n k h =
     le-trans (le-of-eq (sym (sum-times f D n))) (le-trans (sum-le (λ i. f i * D) (λ i. sum (λ t. g t i) k) n h) (le-of-eq (sym (sum-swap g k n))))
 
-module _ (p : Plan) (ok : Sound p) (D : ℕ) (common : Common p D) (proc a b : ℕ) (v : Visit) (yes-listed : T (p .listed (v .mode))) where
+module _ (p : RunPlan) (ok : Sound p) (D : ℕ) (common : Common p D) (proc a b : ℕ) (v : Visit) (yes-listed : T (p .listed (v .mode))) where
   -- one firing asks for its wcet over the ticks of its period
   firing : (i n : ℕ) → Acts p (v .mode) i
       → cond (within p v i a b n) (p .wcet (v .mode) i) 0 * D ≤ sum (λ t. cond (underWay p v i (a + t) n) (share p D (v .mode) i) 0) (b - a)
@@ -92,7 +92,7 @@ module _ (p : Plan) (ok : Sound p) (D : ℕ) (common : Common p D) (proc a b : �
           omega (arith, number p ok (v .mode) (v .start) yes-listed i n (acts tt)))
           (λ n k c. c)))
 
-module _ (p : Plan) (ok : Sound p) where
+module _ (p : RunPlan) (ok : Sound p) where
   list-needs : (D : ℕ) → Common p D → (proc a b : ℕ) (vs : List Visit) → Every (Good p) vs
       → total vs (needs p proc a b) * D ≤ sum (λ t. total vs (parts p D proc (a + t))) (b - a)
   unfolding total

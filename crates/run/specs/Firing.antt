@@ -6,11 +6,11 @@ use lib.Dec.{T, leb, ltb, eqb}
 use Rattle.numbers.specs.Sum.{sum}
 use Rattle.numbers.specs.Fraction.{plus, sumOf, nothing}
 use Rattle.numbers.specs.declared.fraction.Fraction.{Fraction}
-use Rattle.run.specs.Plan.{Plan, Acts, startup, isOn, askedBy}
+use Rattle.run.specs.Plan.{RunPlan, Acts, startup, isOn, askedBy}
 use Rattle.run.specs.Machine.{Leave, stays, leaves, Visit}
 
 -- firing n of actor i of a visit begins at this tick ..
-abbrev pub begins : Plan → Visit → ℕ → ℕ → ℕ
+abbrev pub begins : RunPlan → Visit → ℕ → ℕ → ℕ
 begins p v i n = v .start + p .start (v .mode) i + n * p .period (v .mode) i
 
 -- .. if it is a firing of the visit: in a visit that is left at F, actor i ends at F + S, and has the firings that begin before that tick
@@ -18,11 +18,11 @@ abbrev pub inside : Leave → ℕ → ℕ → Bool
 inside stays start after = true
 inside (leaves f) start after = ltb after (f - start)
 
-abbrev pub fires : Plan → Visit → ℕ → ℕ → Bool
+abbrev pub fires : RunPlan → Visit → ℕ → ℕ → Bool
 fires p v i n = inside (v .leave) (v .start) (n * p .period (v .mode) i)
 
 -- firing n is under way at tick t: it has begun, and its period is not over
-abbrev pub underWay : Plan → Visit → ℕ → ℕ → ℕ → Bool
+abbrev pub underWay : RunPlan → Visit → ℕ → ℕ → ℕ → Bool
 underWay p v i t n = fires p v i n && (leb (begins p v i n) t && ltb t (begins p v i n + p .period (v .mode) i))
 
 -- a visit is under way at tick t: it has started, and not all its actors have ended
@@ -30,7 +30,7 @@ abbrev pub before : Leave → ℕ → ℕ → Bool
 before stays after t = true
 before (leaves f) after t = ltb t (f + after)
 
-abbrev pub isOpen : Plan → ℕ → Visit → Bool
+abbrev pub isOpen : RunPlan → ℕ → Visit → Bool
 isOpen p t v = leb (v .start) t && before (v .leave) (startup p (v .mode)) t
 
 -- when each firing of each actor of each visit ends
@@ -38,7 +38,7 @@ abbrev pub Ends : Type 0
 Ends = Visit → ℕ → ℕ → ℕ
 
 -- each firing of a visit ends within its period
-abbrev pub InPeriod : Plan → Ends → Visit → Type 0
+abbrev pub InPeriod : RunPlan → Ends → Visit → Type 0
 InPeriod p e v = (i n : ℕ) → Acts p (v .mode) i → T (fires p v i n) → (begins p v i n ≤ e v i n) × (e v i n ≤ begins p v i n + p .period (v .mode) i)
 
 -- the sum of f n over the numbers n below a bound that pass a test
@@ -47,24 +47,24 @@ tally test f bound = sum (λ n. cond (test n) (f n) 0) bound
 
 -- what the firings of actor i of a visit come to that have begun by tick t, and those that have ended by then, if firing n counts f n
 -- (firing n does not begin before tick n, so those up to t are all)
-unfoldable pub begun : Plan → Visit → ℕ → (ℕ → ℕ) → ℕ → ℕ
+unfoldable pub begun : RunPlan → Visit → ℕ → (ℕ → ℕ) → ℕ → ℕ
 begun p v i f t = tally (λ n. fires p v i n && leb (begins p v i n) t) f (suc t)
 
-unfoldable pub done : Plan → Ends → Visit → ℕ → (ℕ → ℕ) → ℕ → ℕ
+unfoldable pub done : RunPlan → Ends → Visit → ℕ → (ℕ → ℕ) → ℕ → ℕ
 done p e v i f t = tally (λ n. fires p v i n && leb (e v i n) t) f (suc t)
 
 -- Of channel c, by tick t, in one visit: the tokens taken, when a firing begins, and made, when one ends; and the places claimed, when a firing
 -- begins, and given back, when one ends.
-abbrev pub taken : Plan → ℕ → ℕ → Visit → ℕ
+abbrev pub taken : RunPlan → ℕ → ℕ → Visit → ℕ
 taken p c t v = begun p v (p .to (v .mode) c) (p .consumption (v .mode) c) t
 
-abbrev pub made : Plan → Ends → ℕ → ℕ → Visit → ℕ
+abbrev pub made : RunPlan → Ends → ℕ → ℕ → Visit → ℕ
 made p e c t v = done p e v (p .from (v .mode) c) (p .production (v .mode) c) t
 
-abbrev pub claimed : Plan → ℕ → ℕ → Visit → ℕ
+abbrev pub claimed : RunPlan → ℕ → ℕ → Visit → ℕ
 claimed p c t v = begun p v (p .from (v .mode) c) (p .production (v .mode) c) t
 
-abbrev pub givenBack : Plan → Ends → ℕ → ℕ → Visit → ℕ
+abbrev pub givenBack : RunPlan → Ends → ℕ → ℕ → Visit → ℕ
 givenBack p e c t v = done p e v (p .to (v .mode) c) (p .consumption (v .mode) c) t
 
 -- what a count of one visit comes to over a list of visits, and over those of mode m
@@ -76,14 +76,14 @@ abbrev pub totalIn : List Visit → ℕ → (Visit → ℕ) → ℕ
 totalIn vs m f = total vs (λ v. cond (eqb (v .mode) m) (f v) 0)
 
 -- how many visits of mode m are under way at tick t: where none is, the mode has ended, or has not begun
-abbrev pub openIn : Plan → List Visit → ℕ → ℕ → ℕ
+abbrev pub openIn : RunPlan → List Visit → ℕ → ℕ → ℕ
 openIn p vs m t = totalIn vs m (λ v. cond (isOpen p t v) 1 0)
 
 -- What a visit asks of a processor at tick t: each firing under way asks for wcet / T. And what all the visits of a list ask.
-unfoldable pub asks : Plan → ℕ → ℕ → Visit → Fraction
+unfoldable pub asks : RunPlan → ℕ → ℕ → Visit → Fraction
 asks p proc t v =
     sumOf (λ i. cond (isOn p (v .mode) proc i) (sumOf (λ n. cond (underWay p v i t n) (askedBy p (v .mode) i) nothing) (suc t)) nothing) (p .actors)
 
-unfoldable pub asked : Plan → ℕ → ℕ → List Visit → Fraction
+unfoldable pub asked : RunPlan → ℕ → ℕ → List Visit → Fraction
 asked p proc t [] = nothing
 asked p proc t (v ∷ vs) = plus (asks p proc t v) (asked p proc t vs)

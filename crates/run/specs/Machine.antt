@@ -6,7 +6,7 @@ use lib.Dec.{ltb, eqb}
 use Rattle.numbers.specs.Quotient.{roundedOf}
 use Rattle.units.specs.Limits.{CLOCK-LIMIT}
 use Rattle.terms.specs.Refusal.{NO-MODE, SAME-MODE, PAST-CLOCK, UNENDED, NO-MACHINE}
-use Rattle.run.specs.Plan.{Plan, sinkStart, startup}
+use Rattle.run.specs.Plan.{RunPlan, sinkStart, startup}
 
 -- a mode, its starting tick, and the tick at which its change ends
 pub record Machine : Type 0 where
@@ -20,7 +20,7 @@ pub record Request : Type 0 where
   pub tick : ℕ
 
 -- the number of the refusal, and 0 for a request that is accepted
-unfoldable pub refusal : Plan → Machine → Request → ℕ
+unfoldable pub refusal : RunPlan → Machine → Request → ℕ
 refusal p m r =
     cond (not (p .listed (m .mode)) || ltb (m .ended) (m .started)) NO-MACHINE
     (cond (not (p .listed (r .mode))) NO-MODE
@@ -29,11 +29,11 @@ refusal p m r =
     (cond (ltb (r .tick) (m .ended)) UNENDED 0))))
 
 -- F: the old mode is left after whole iterations, (t - s) / H rounded up
-abbrev pub leaving : Plan → Machine → Request → ℕ
+abbrev pub leaving : RunPlan → Machine → Request → ℕ
 leaving p m r = m .started + p .iteration (m .mode) * roundedOf (r .tick - m .started) (p .iteration (m .mode))
 
 -- the machine after an accepted request: the new mode starts at F + d, and the change has ended when both start-ups have
-abbrev pub next : Plan → Machine → Request → Machine
+abbrev pub next : RunPlan → Machine → Request → Machine
 next p m r = record {
   mode = r .mode;
   started = leaving p m r + p .offset (m .mode) (r .mode);
@@ -41,11 +41,11 @@ next p m r = record {
 }
 
 -- the delay of an accepted request: F + d + the sink's start in the new mode - t
-abbrev pub delay : Plan → Machine → Request → ℕ
+abbrev pub delay : RunPlan → Machine → Request → ℕ
 delay p m r = leaving p m r + p .offset (m .mode) (r .mode) + sinkStart p (r .mode) - r .tick
 
 -- the worst delay of a change from mode o to mode l
-abbrev pub worst : Plan → ℕ → ℕ → ℕ
+abbrev pub worst : RunPlan → ℕ → ℕ → ℕ
 worst p o l = p .offset o l + sinkStart p l + p .iteration o - 1
 
 -- A visit is one stay in a mode: the tick at which it starts and, once a request has ended it, F.
@@ -70,17 +70,17 @@ abbrev pub visits : Run → List Visit
 visits s = visit (s .now) stays ∷ s .past
 
 -- a machine begins at tick 0, and its first change counts as ended at the end of the start-up
-abbrev pub begin : Plan → ℕ → Run
+abbrev pub begin : RunPlan → ℕ → Run
 begin p m = record { now = record { mode = m; started = 0; ended = startup p m }; past = [] }
 
 -- a request is answered: a refused one changes nothing
-unfoldable pub answer : Plan → Run → Request → Run
+unfoldable pub answer : RunPlan → Run → Request → Run
 answer p s r =
     cond (eqb (refusal p (s .now) r) 0)
     (record { now = next p (s .now) r; past = visit (s .now) (leaves (leaving p (s .now) r)) ∷ s .past })
     s
 
 -- a list of requests, answered one after the other
-unfoldable pub run : Plan → Run → List Request → Run
+unfoldable pub run : RunPlan → Run → List Request → Run
 run p s [] = s
 run p s (r ∷ rs) = run p (answer p s r) rs

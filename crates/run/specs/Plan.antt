@@ -5,7 +5,7 @@ use lib.Dec.{T, eqb}
 use Rattle.numbers.specs.declared.fraction.Fraction.{Fraction}
 
 -- Modes, actors, channels and processors are numbers, and a mode comes first among the arguments. Times are in ticks.
-pub record Plan : Type 0 where
+pub record RunPlan : Type 0 where
   -- the modes that can be run
   pub listed : ℕ → Bool
   -- each actor is below this; those that are active in a mode; the processor of an actor, in all modes
@@ -31,20 +31,20 @@ pub record Plan : Type 0 where
   pub offset : ℕ → ℕ → ℕ
 
 -- the sink's start, and the end of a mode's start-up, which is that tick
-abbrev pub sinkStart : Plan → ℕ → ℕ
+abbrev pub sinkStart : RunPlan → ℕ → ℕ
 sinkStart p m = p .start m (p .sink m)
 
-abbrev pub startup : Plan → ℕ → ℕ
+abbrev pub startup : RunPlan → ℕ → ℕ
 startup p m = sinkStart p m
 
 -- actor i is active in mode m
-abbrev pub Acts : Plan → ℕ → ℕ → Type 0
+abbrev pub Acts : RunPlan → ℕ → ℕ → Type 0
 Acts p m i = (i < p .actors) × T (p .active m i)
 
 -- and works on the processor
-abbrev pub isOn : Plan → ℕ → ℕ → ℕ → Bool
+abbrev pub isOn : RunPlan → ℕ → ℕ → ℕ → Bool
 isOn p m proc i = p .active m i && eqb (p .processor i) proc
 
 -- what an actor asks of its processor: wcet / T
-abbrev pub askedBy : Plan → ℕ → ℕ → Fraction
+abbrev pub askedBy : RunPlan → ℕ → ℕ → Fraction
 askedBy p m i = record { over = p .wcet m i; under = p .period m i }

@@ -24,14 +24,14 @@ returns-2 c =
     decides-no
     (λ e.
     decides-false {r = c .before .modes-hold .result} (c .before .modes-hold .ensures) (not-true _ (c .if2 .taken))
-    (ap (take (MODE-WORDS * MODES)) e ∙ take-at (modesWords (a .table) (a .whole)) (changesWords (a .whole)) (MODE-WORDS * MODES) (length-modes (a .table) (a .whole))))
+    (ap (take (MODE-WORDS * MODES)) e ∙ take-at (modesWords (a .table) (a .plan)) (changesWords (a .plan)) (MODE-WORDS * MODES) (length-modes (a .table) (a .plan))))
 
 returns-3 : tie.Need-returns-3
 unfolding wordsOf
 returns-3 c =
     let a = c .before .before .before .before .before .before .before .args in
     let d = c .changes-hold .ensures in
-    let h = two-parts (MODE-WORDS * MODES) (CHANGE-WORDS * CHANGES) (modesWords (a .table) (a .whole)) (changesWords (a .whole)) (now (a .words)) (length-modes (a .table) (a .whole)) (length-changes (a .whole)) (c .before .before .before .before .before .if1 .left)
+    let h = two-parts (MODE-WORDS * MODES) (CHANGE-WORDS * CHANGES) (modesWords (a .table) (a .plan)) (changesWords (a .plan)) (now (a .words)) (length-modes (a .table) (a .plan)) (length-changes (a .plan)) (c .before .before .before .before .before .if1 .left)
     (decides-true {r = c .before .before .before .modes-hold .result} (c .before .before .before .modes-hold .ensures) (not-false _ (c .before .before .if2 .left))) in
     ((λ t. h .0 (d .0 t)), (λ e. d .1 (h .1 e)))
 

@@ -16,7 +16,7 @@ unfolding wordsOf
 returns c =
     let s = c .before .before .before .before .before .before .before .before .before in
     let t = s .args .table in
-    let w = s .args .whole in
+    let w = s .args .plan in
     let modes = c .before .before .before .before .before .before .put-modes .ensures in
     laid-all
     (laid-put (MODE-WORDS * MODES) (CHANGE-WORDS * CHANGES) (c .before .before .put-changes .ensures)

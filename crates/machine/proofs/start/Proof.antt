@@ -11,7 +11,7 @@ use lib.Dec.{T}
 use Rattle.numbers.specs.Decides.{decides-false}
 use Rattle.units.specs.Limits.{MODES}
 use Rattle.terms.specs.declared.refusal.Refusal.{Refusal}
-use Rattle.planned.specs.Plan.{isListed}
+use Rattle.machine.specs.Plan.{isListed}
 use Rattle.planner.specs.Plans.{Leaves}
 use Rattle.planner.proofs.Leaving.{recalls-decides, recalls-leaves}
 use Rattle.machine.specs.declared.Beginning.the-variants.{Refused}
@@ -20,7 +20,7 @@ use Rattle.machine.proofs.Steps.{is-true, in-range, meant-lowest, meant
 use Rattle.machine.proofs.start.Statement.{statement}
 use Rattle.machine.proofs.start.Tie as tie
 
-leaves : (c : tie.Else1) → let r = c .before .before in Leaves (r .recall .result .table) (r .recall .result .whole) (now (r .before .before .args .words))
+leaves : (c : tie.Else1) → let r = c .before .before in Leaves (r .recall .result .table) (r .recall .result .plan) (now (r .before .before .args .words))
 leaves c = recalls-leaves (c .before .before .recall .ensures) (not-false (c .before .before .recall .result .good) (c .if1 .left))
 
 meant : (c : tie.Joined2) → let r = c .before .before .before .before .before in

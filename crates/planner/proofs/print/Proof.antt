@@ -25,7 +25,7 @@ unstored c =
     (not-stored (r .before .if1 .left) (decides-false {r = r .recall .result .good} (recalls-decides (r .recall .ensures)) (not-true _ (c .before .if2 .taken))))
 
 -- what leaves the words
-leaves : (c : tie.Else2) → let r = c .before .before in Leaves (r .recall .result .table) (r .recall .result .whole) (now (r .before .before .before .before .args .words))
+leaves : (c : tie.Else2) → let r = c .before .before in Leaves (r .recall .result .table) (r .recall .result .plan) (now (r .before .before .before .before .args .words))
 leaves c = recalls-leaves (c .before .before .recall .ensures) (not-false _ (c .if2 .left))
 
 print-requires : tie.Need-print-requires

@@ -7,9 +7,9 @@ use Prim.Native.Nat.{ℕ}
 use denote.Ref.{now}
 use Rattle.numbers.specs.Decides.{decides-true, decides-false}
 use Rattle.tables.specs.Proper.{ProperTable}
-use Rattle.whole.specs.declared.Whole.{Whole}
-use Rattle.whole.specs.Whole.{Planned}
-use Rattle.whole.proofs.Unique.{plan-unique}
+use Rattle.planning.specs.declared.Plan.{Plan}
+use Rattle.planning.specs.Plan.{Planned}
+use Rattle.planning.proofs.Unique.{plan-unique}
 use Rattle.layout.specs.Words.{wordsOf}
 use Rattle.planner.specs.declared.Recalled.{Recalled}
 use Rattle.planner.specs.Plans.{Stored, forgotten, Recalls, not-stored, stored}
@@ -24,7 +24,7 @@ forgets {words} e n = subst (Recalls words) (sym e) (not-stored n)
 proper : (c : tie.Else2) → ProperTable (c .before .before .graph-of .result)
 proper c = decides-true {r = c .before .proper .result} (c .before .proper .ensures) (not-false _ (c .if2 .left))
 
-planned : (c : tie.After-enum-told) → let p = c .before .before in Planned (p .before .before .before .graph-of .result) (p .plan-of .result .whole)
+planned : (c : tie.After-enum-told) → let p = c .before .before in Planned (p .before .before .before .graph-of .result) (p .plan-of .result .plan)
 planned c = planning-planned (c .before .before .plan-of .ensures) (c .enum-told .given .1)
 
 wrong-length : tie.Need-returns
@@ -52,7 +52,7 @@ other c =
     (λ s.
     let (w, l) = stored-held (g .graph-of .ensures) s in
     decides-false {r = h .holds .result} (h .holds .ensures) (not-true _ (c .before .if3 .taken))
-    (subst (λ (v : Whole). now (g .before .before .before .args .words) ≡ wordsOf (g .graph-of .result) v) (plan-unique _ w _ (l .planned) (planned e)) (l .left)))
+    (subst (λ (v : Plan). now (g .before .before .before .args .words) ≡ wordsOf (g .graph-of .result) v) (plan-unique _ w _ (l .planned) (planned e)) (l .left)))
 
 held : tie.Need-returns-5
 held c =

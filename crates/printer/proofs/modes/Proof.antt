@@ -4,7 +4,7 @@ use Prim.Native.Nat.{_-_, _≤_}
 use native.Mathlib.Omega.{arith}
 use Rattle.units.specs.Limits.{MODES}
 use Rattle.tables.specs.Shape.{modeAt}
-use Rattle.whole.specs.Whole.{partAt}
+use Rattle.planning.specs.Plan.{partAt}
 use Rattle.csv.specs.Laid.{Laid}
 use Rattle.printer.specs.Texts.{texts}
 use Rattle.printer.specs.Printed.{modeText}
@@ -14,10 +14,10 @@ use Rattle.printer.proofs.modes.Statement.{statement}
 use Rattle.printer.proofs.modes.Tie as tie
 
 abbrev Inv-loop : tie.InvT-loop
-Inv-loop out₀ table whole at₀ m₀ out at m = (m ≤ MODES) × Laid out₀ 0 (texts (λ m. modeText m (modeAt table m) (partAt whole m)) m) out at
+Inv-loop out₀ table plan at₀ m₀ out at m = (m ≤ MODES) × Laid out₀ 0 (texts (λ m. modeText m (modeAt table m) (partAt plan m)) m) out at
 
 abbrev μ-loop : tie.MeasureT-loop
-μ-loop out₀ table whole at₀ m₀ out at m = MODES - m
+μ-loop out₀ table plan at₀ m₀ out at m = MODES - m
 
 mode-requires : tie.Need-mode-requires Inv-loop μ-loop
 mode-requires c κs =

@@ -14,13 +14,13 @@ use Rattle.printer.proofs.Fitting.{plan-fits}
 use Rattle.printer.proofs.print.Statement.{statement}
 use Rattle.printer.proofs.print.Tie as tie
 
-room : (c : tie.Start) → Room (c .args .out .now) 0 (planText (c .args .table) (c .args .whole))
-room c = record { fits = omega (arith, c .pre .0, plan-fits (c .args .table) (c .args .whole) (c .pre .1)) }
+room : (c : tie.Start) → Room (c .args .out .now) 0 (planText (c .args .table) (c .args .plan))
+room c = record { fits = omega (arith, c .pre .0, plan-fits (c .args .table) (c .args .plan) (c .pre .1)) }
 
 modes-requires : tie.Need-modes-requires
 modes-requires c κs =
     let s = c .before .before .before .before in
-    (room-first (changesText (activeOf (s .args .table)) (s .args .whole .changes)) (room s), s .pre .1)
+    (room-first (changesText (activeOf (s .args .table)) (s .args .plan .changes)) (room s), s .pre .1)
 
 changes-requires : tie.Need-changes-requires
 changes-requires c κs =
@@ -29,14 +29,14 @@ changes-requires c κs =
     let e = d .before .before .before .active-of .ensures in (
       rw e (room-then (room s) (d .modes .ensures)),
       rw e (length-tab MODES (λ m. modeAt (s .args .table) m .active)),
-      sym (length-map (s .args .whole .changes) _) ∙ s .good .1 .0 .1 .1 .1 .0 .1 .0 .1,
+      sym (length-map (s .args .plan .changes) _) ∙ s .good .1 .0 .1 .1 .1 .0 .1 .0 .1,
     )
 
 -- the plan's text, laid
 abbrev start : tie.After-changes2 → tie.Start
 start c = c .before .before .before .before .before .before .before .before .before
 
-text : (c : tie.After-changes2) → Laid (start c .args .out .now) 0 (planText (start c .args .table) (start c .args .whole)) (c .changes2 .last .0) (c .changes2 .result)
+text : (c : tie.After-changes2) → Laid (start c .args .out .now) 0 (planText (start c .args .table) (start c .args .plan)) (c .changes2 .last .0) (c .changes2 .result)
 text c =
     let d = c .before .before .before .before in
     let e = d .before .before .before .active-of .ensures in

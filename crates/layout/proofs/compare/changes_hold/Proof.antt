@@ -13,7 +13,7 @@ use Rattle.layout.proofs.compare.changes_hold.Tie as tie
 same-requires : tie.Need-same-requires
 same-requires c κs =
     let s = c .before .before .before .before .before in
-    s .pre ∙ sym (ap length (c .before .before .put-changes .ensures) ∙ length-changes (s .args .whole))
+    s .pre ∙ sym (ap length (c .before .before .put-changes .ensures) ∙ length-changes (s .args .plan))
 
 returns : tie.Need-returns
 returns c =

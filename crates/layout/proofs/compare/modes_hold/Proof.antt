@@ -15,10 +15,10 @@ use Rattle.layout.proofs.compare.modes_hold.Statement.{statement}
 use Rattle.layout.proofs.compare.modes_hold.Tie as tie
 
 abbrev Inv-loop : tie.InvT-loop
-Inv-loop words table whole m₀ m = (m ≤ MODES) × Begun MODE-WORDS (modeWordsAt table whole) MODES words m
+Inv-loop words table plan m₀ m = (m ≤ MODES) × Begun MODE-WORDS (modeWordsAt table plan) MODES words m
 
 abbrev μ-loop : tie.MeasureT-loop
-μ-loop words table whole m₀ m = MODES - m
+μ-loop words table plan m₀ m = MODES - m
 
 returns : tie.Need-returns Inv-loop μ-loop
 returns c =

@@ -10,10 +10,10 @@ use Rattle.layout.proofs.store.put_changes.Statement.{statement}
 use Rattle.layout.proofs.store.put_changes.Tie as tie
 
 abbrev Inv-loop : tie.InvT-loop
-Inv-loop words₀ whole k₀ words k = (k ≤ CHANGES) × Begun CHANGE-WORDS (changeWordsAt whole) CHANGES words k
+Inv-loop words₀ plan k₀ words k = (k ≤ CHANGES) × Begun CHANGE-WORDS (changeWordsAt plan) CHANGES words k
 
 abbrev μ-loop : tie.MeasureT-loop
-μ-loop words₀ whole k₀ words k = CHANGES - k
+μ-loop words₀ plan k₀ words k = CHANGES - k
 
 loop-again : tie.Need-loop-again Inv-loop μ-loop
 loop-again c =

@@ -11,10 +11,10 @@ use Rattle.layout.proofs.store.put_modes.Statement.{statement}
 use Rattle.layout.proofs.store.put_modes.Tie as tie
 
 abbrev Inv-loop : tie.InvT-loop
-Inv-loop words₀ table whole m₀ words m = (m ≤ MODES) × Begun MODE-WORDS (modeWordsAt table whole) MODES words m
+Inv-loop words₀ table plan m₀ words m = (m ≤ MODES) × Begun MODE-WORDS (modeWordsAt table plan) MODES words m
 
 abbrev μ-loop : tie.MeasureT-loop
-μ-loop words₀ table whole m₀ words m = MODES - m
+μ-loop words₀ table plan m₀ words m = MODES - m
 
 loop-again : tie.Need-loop-again Inv-loop μ-loop
 loop-again c =

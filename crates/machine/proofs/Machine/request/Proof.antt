@@ -8,10 +8,10 @@ use native.Mathlib.Nat.{lt-of-not-le}
 use denote.Ref.{now}
 use Rattle.numbers.specs.Decides.{decides-true, decides-false}
 use Rattle.units.specs.Limits.{CLOCK-LIMIT}
-use Rattle.run.specs.Plan.{Plan}
+use Rattle.run.specs.Plan.{RunPlan}
 use Rattle.run.specs.Machine.{Machine, Request}
 use Rattle.run.proofs.Delay.{Accepted}
-use Rattle.planned.specs.Plan.{planOf}
+use Rattle.machine.specs.Plan.{planOf}
 use Rattle.planner.specs.Plans.{Leaves}
 use Rattle.planner.proofs.Leaving.{recalls-decides, recalls-leaves}
 use Rattle.machine.specs.declared.Course.{Course}
@@ -21,12 +21,12 @@ use Rattle.machine.proofs.Steps.{is-true, in-range, refused-16, refused
 use Rattle.machine.proofs.Machine.request.Statement.{statement}
 use Rattle.machine.proofs.Machine.request.Tie as tie
 
-leaves : (c : tie.Else1) → let r = c .before .before in Leaves (r .recall .result .table) (r .recall .result .whole) (now (r .before .before .args .words))
+leaves : (c : tie.Else1) → let r = c .before .before in Leaves (r .recall .result .table) (r .recall .result .plan) (now (r .before .before .args .words))
 leaves c = recalls-leaves (c .before .before .recall .ensures) (not-false (c .before .before .recall .result .good) (c .if1 .left))
 
 -- the plan that is recalled, and the machine and the request as the run sees them
-abbrev plan : tie.Else1 → Plan
-plan e = planOf (e .before .before .recall .result .table) (e .before .before .recall .result .whole)
+abbrev plan : tie.Else1 → RunPlan
+plan e = planOf (e .before .before .recall .result .table) (e .before .before .recall .result .plan)
 
 abbrev now-is : tie.Else1 → Machine
 now-is e = seen (e .before .before .before .before .args .self)

@@ -8,7 +8,7 @@ use native.Mathlib.Omega.{arith}
 use Rattle.numbers.specs.Lowest.{lowest-is, lowest-none, none-more, NonePasses}
 use Rattle.units.specs.Limits.{MODES}
 use Rattle.tables.specs.Shape.{modeAt}
-use Rattle.planned.specs.Plan.{isListed}
+use Rattle.machine.specs.Plan.{isListed}
 use Rattle.machine.proofs.Steps.{listed-place}
 use Rattle.machine.proofs.modes.lowest.Statement.{statement}
 use Rattle.machine.proofs.modes.lowest.Tie as tie

@@ -1,0 +1,146 @@
+-- A planned mode is ready for a change. Assumes nothing.
+use mathlib.Core.Path.{_≡_, refl, sym, ap, subst, _∙_}
+use mathlib.Core.Bool.{Bool, true, false, cond, _&&_}
+use mathlib.Core.List.{List}
+use mathlib.Core.Logic.{⊎-elim}
+use Prim.Native.Nat.{ℕ, _≤_, _<_, zero-le, _-_}
+use native.Mathlib.Nat.{lt-of-not-le, lt-of-lt-of-le, mul-comm}
+use native.Mathlib.Omega.{arith}
+use native.Mathlib.Decide.{decLe}
+use lib.Dec.{eqb}
+use lib.ListN.{getD, replicate, length-replicate}
+use lib.Seq.{ext-getD}
+use Rattle.numbers.specs.Bits.{Has, bit, hasb, has-decides, has-or-not, has-below, some-has, bit-zero}
+use Rattle.numbers.specs.Decides.{decides-true}
+use Rattle.numbers.specs.Fraction.{AtMost, sum-alike, nothing}
+use Rattle.numbers.specs.Tab.{length-tab, getD-tab, getD-replicated}
+use Rattle.units.specs.Bounds.{MOST-START}
+use Rattle.units.specs.Limits.{MODES, ACTORS, MOST-WCET, LOAD-LIMIT, limitOf}
+use Rattle.units.specs.declared.Tick.{Tick}
+use Rattle.units.specs.declared.Firing.{Firing}
+use Rattle.units.specs.Ticks.{tick}
+use Rattle.units.specs.Firings.{firing}
+use Rattle.period.specs.Period.{periodOf, partOf}
+use Rattle.terms.specs.Place.{numberOf}
+use Rattle.tables.specs.declared.Mode.{Mode}
+use Rattle.tables.specs.declared.Table.{Table}
+use Rattle.tables.specs.Shape.{modeAt, actorAt, Active, noActor}
+use Rattle.tables.specs.Proper.{ProperMode, ProperTable}
+use Rattle.graph.specs.Balance.{firingsOf}
+use Rattle.graph.specs.Load.{Overloaded, askedBy, loadOf}
+use Rattle.graph.specs.Judged.{ofActors}
+use Rattle.graph.specs.Laws.{iteration-pos, period-whole, period-fits}
+use Rattle.schedule.specs.Starts.{Late}
+use Rattle.schedule.proofs.Sound.{at-actor}
+use Rattle.change.specs.Work.{Fitting}
+use Rattle.change.specs.Running.{askedBy as asked, askedOf, Bearable, Ready}
+use Rattle.planning.specs.declared.ModePlan.{ModePlan}
+use Rattle.planning.specs.Nothing.{noPart}
+use Rattle.planning.specs.Plan.{partOf as planOf, Listed, ModePlanned, IsPart}
+use Rattle.planning.specs.Steps.{noRunning, idleRunning, runningsOf, AllReady, FoundParts, runningOf}
+use Rattle.planning.proofs.Told.{judged-sound, scheduled-times}
+use Rattle.planning.proofs.Bounds.{mode-small, part-small}
+
+-- a mode with an actor is listed
+pub listed-some : (t : Table) (k : ℕ) → ProperTable t → k < MODES → (modeAt t k .active ≡ 0 → ⊥) → Listed t k
+listed-some t k proper l n =
+    let (i, h) = some-has (modeAt t k .active) n in
+    (l, (i, (has-below ACTORS (modeAt t k .active) i (proper .mode k l .active) h, h)))
+
+pub listed-none : (t : Table) (k : ℕ) → Listed t k → modeAt t k .active ≡ 0 → ⊥
+listed-none t k (l, (i, a)) e = omega (arith, a .1, ap (λ (m : ℕ). bit m i) e, bit-zero i)
+
+module _ (m : Mode) (proper : ProperMode m) where
+  wcet-small : (i : ℕ) → i < ACTORS → actorAt m i .wcet .0 ≤ MOST-WCET .0
+  wcet-small i l =
+      ⊎-elim (λ (h : Has (m .active) i). proper .actor i l h .wcet)
+      (λ (z : bit (m .active) i ≡ 0). rw (proper .no-actor i l (λ h. omega arith)) zero-le) (has-or-not (m .active) i)
+
+  -- no actor starts after the end of the start-up, where none is late
+  in-time : (s : ℕ → Tick) (sink : ℕ) (starts : List Tick) (startup : Tick) → ((i : ℕ) → Late m s sink i → ⊥) → starts ≡ ofActors m s (tick 0) → startup ≡ s sink
+      → (i : ℕ) → i < ACTORS → getD starts i (tick 0) .0 ≤ startup .0
+  in-time s sink starts startup never e f i l = rw (e, f, getD-tab ACTORS (λ i. cond (hasb (m .active) i) (s i) (tick 0)) i (tick 0) l) (go (hasb (m .active) i) refl)
+    where
+      go : (b : Bool) → hasb (m .active) i ≡ b → cond b (s i) (tick 0) .0 ≤ s sink .0
+      go false e = zero-le
+      go true e = at (decLe (s i .0) (s sink .0))
+        where
+          at : Dec (s i .0 ≤ s sink .0) → s i .0 ≤ s sink .0
+          at (yes h) = h
+          at (no h) = absurd (never i ((l, decides-true (has-decides (m .active) i) e), lt-of-not-le h))
+
+  -- what a mode asks of a processor as it runs is its load, which is not above the limit
+  module _ (x : ℕ → ℕ) (p : ModePlan) (period : (i : ℕ) → Active m i → getD (p .periods) i (tick 0) ≡ periodOf (p .iteration) (firingsOf m x i)) where
+    asks : (q : ℕ) → askedOf (runningOf m p) q (λ i. true) ≡ loadOf m x (p .iteration) q
+    asks q = sum-alike _ _ ACTORS (λ i l. go i l (hasb (m .active) i) refl (eqb (actorAt m i .processor) q))
+      where
+        go : (i : ℕ) → i < ACTORS → (b : Bool) → hasb (m .active) i ≡ b → (c : Bool)
+            → cond ((b && c) && true) (asked (runningOf m p) i) nothing ≡ cond (b && c) (askedBy m x (p .iteration) i) nothing
+        go i l true e true = ap (partOf (actorAt m i .wcet)) (period i (l, decides-true (has-decides (m .active) i) e))
+        go i l true e false = refl
+        go i l false e c = refl
+
+    borne : ((q : ℕ) → Overloaded m x (p .iteration) q → ⊥) → Bearable limitOf (runningOf m p)
+    borne bears q l h = subst (λ f. AtMost f LOAD-LIMIT) (sym (asks q)) (go (decLe _ _))
+      where
+        go : Dec (AtMost (loadOf m x (p .iteration) q) LOAD-LIMIT) → AtMost (loadOf m x (p .iteration) q) LOAD-LIMIT
+        go (yes a) = a
+        go (no n) = let e : numberOf (q - 1) ≡ q = omega arith in absurd (bears (q - 1) (record { processor = omega arith; above = rw e n }))
+
+  pub mode-ready : (p : ModePlan) → ModePlanned m p → Ready (runningOf m p)
+  mode-ready p w =
+      let j = w .judgement in
+      let (x, acyclic, n, bears) = judged-sound (w .judged) (w .sound) in
+      let (s, starts, never, times) = scheduled-times (w .scheduled) (w .on-time) in
+      let some = n .smallest .balances .some in
+      let period : (i : ℕ) → Active m i → getD (j .periods) i (tick 0) ≡ periodOf (j .iteration) (firingsOf m x i)
+      = λ i a. ap (λ (l : List Tick). getD l i (tick 0)) (n .periods) ∙ at-actor m _ (tick 0) i a in
+      let firings : (i : ℕ) → Active m i → getD (j .firings) i (firing 0) ≡ firingsOf m x i
+      = λ i a. ap (λ (l : List Firing). getD l i (firing 0)) (n .firings) ∙ at-actor m _ (firing 0) i a in
+      let startup : w .timetable .startup .0 ≤ MOST-START .0
+      = subst (λ (p : ModePlan). p .startup .0 ≤ MOST-START .0) (w .part) (mode-small m p proper w .startup) in
+      subst (λ (p : ModePlan). Ready (runningOf m p)) (sym (w .part))
+      (record {
+        actor = λ i a. proper .actor i (a .0) (a .1);
+        no-actor = proper .no-actor;
+        period = λ i a. rw (period i a) (lt-of-lt-of-le (proper .actor i (a .0) (a .1) .some-tick) (period-fits m proper x some (n .iteration) i a));
+        whole = λ i a. rw (period i a, firings i a) (mul-comm _ _ ∙ period-whole m x (n .iteration) i a);
+        start = in-time s (j .sink) _ _ never (times .starts) (times .startup);
+        startup = omega (arith, startup);
+        some-tick = iteration-pos m proper x some (n .iteration);
+        iteration = n .within;
+        load = borne x (planOf j (w .timetable)) period bears;
+        since = refl;
+        until = refl;
+      })
+
+module _ (t : Table) (proper : ProperTable t) where
+  pub part-fitting : (k : ℕ) (p : ModePlan) → k < MODES → IsPart t k p → Fitting (modeAt t k .actors) (p .firings) (p .starts)
+  part-fitting k p l is =
+      let small = part-small t proper k p l is in
+      record {
+        actors-long = proper .mode k l .actors-long;
+        firings-long = small .firings-long;
+        starts-long = small .starts-long;
+        wcet = wcet-small (modeAt t k) (proper .mode k l);
+        few = λ i h. small .firings i;
+      }
+
+  -- a mode that is not listed has no actor and no part
+  pub part-idle : (k : ℕ) (p : ModePlan) → k < MODES → IsPart t k p → modeAt t k .active ≡ 0 → idleRunning ≡ runningOf (modeAt t k) p
+  part-idle k p l is e =
+      let m = modeAt t k in
+      let none : (i : ℕ) → i < ACTORS → Has (m .active) i → ⊥ = λ i h a. listed-none t k (l, (i, (h, a))) e in
+      let actors : m .actors ≡ replicate ACTORS noActor
+      = ext-getD noActor (m .actors) (replicate ACTORS noActor) (proper .mode k l .actors-long ∙ sym (length-replicate ACTORS noActor))
+      (λ i h. proper .mode k l .no-actor i (omega (arith, proper .mode k l .actors-long)) (none i (omega (arith, proper .mode k l .actors-long))) ∙ sym (getD-replicated ACTORS i noActor)) in
+      rw (is .unlisted (λ w. listed-none t k w e), e, actors)
+
+  -- all modes of a plan that have an actor
+  pub all-ready : (ps : List ModePlan) → FoundParts t ps MODES → AllReady (runningsOf t ps)
+  all-ready ps made =
+      record {
+        long = length-tab MODES _;
+        ready = λ k l. rw (getD-tab MODES (λ k. runningOf (modeAt t k) (getD ps k noPart)) k noRunning l)
+            (λ n. mode-ready (modeAt t k) (proper .mode k l) (getD ps k noPart) (made .each k l .listed (listed-some t k proper l n)));
+      }

@@ -1,0 +1,176 @@
+-- A table has one outcome only. Assumes nothing.
+use mathlib.Core.Path.{_≡_, refl, sym, ap, ap₂, subst, subst₂, _∙_}
+use mathlib.Core.List.{List}
+use mathlib.Core.Logic.{⊎-elim}
+use Prim.Native.Nat.{ℕ, _+_, _*_, _/_, _%_, _<_, zero-le}
+use native.Mathlib.Nat.{le-antisymm, not-le-of-lt}
+use native.Mathlib.Omega.{arith}
+use native.Mathlib.Decide.{decLt, ℕ-discrete}
+use lib.ListN.{getD}
+use lib.Seq.{ext-getD}
+use Rattle.numbers.specs.Bits.{hasb, has-decides}
+use Rattle.numbers.specs.Decides.{decides-true, decides-false}
+use Rattle.numbers.specs.Lowest.{sought}
+use Rattle.units.specs.Limits.{MODES, ACTORS}
+use Rattle.units.specs.declared.Tick.{Tick}
+use Rattle.units.specs.Ticks.{tick}
+use Rattle.period.specs.Period.{periodOf}
+use Rattle.terms.specs.Refusal.{OVERLOAD, LATE}
+use Rattle.terms.specs.declared.refusal.Place.the-variants.{Actor as AtActor, Processor as AtProcessor}
+use Rattle.terms.specs.declared.refusal.Refusal.{Refusal}
+use Rattle.terms.specs.Place.{numberOf}
+use Rattle.tables.specs.declared.Mode.{Mode}
+use Rattle.tables.specs.declared.Table.{Table}
+use Rattle.tables.specs.Shape.{modeAt}
+use Rattle.graph.specs.declared.Judgement.{Judgement}
+use Rattle.graph.specs.Balance.{Unbalanced, firingsOf}
+use Rattle.graph.specs.Load.{Overloaded}
+use Rattle.graph.proofs.Unique.{only-unique, of-actors, smallest-same, lengths-same, over-again, judged-unique}
+use Rattle.schedule.specs.Starts.{Starts, Late}
+use Rattle.schedule.specs.Scheduled.{Scheduled}
+use Rattle.schedule.proofs.Unique.{starts-unique, scheduled-unique}
+use Rattle.change.specs.Change.{Changes, changes-unique}
+use Rattle.planning.specs.declared.ModePlan.{ModePlan}
+use Rattle.planning.specs.declared.Plan.{Plan}
+use Rattle.planning.specs.declared.Answer.the-variants.{Refused as IsRefused, Planned as IsPlanned}
+use Rattle.planning.specs.declared.Outcome.{Outcome}
+use Rattle.planning.specs.Nothing.{noPart, noTiming, emptyPlan}
+use Rattle.planning.specs.Plan.{changeAt, Listed, refusal, periodsOf, Balanced, ModeRefused, by-6, by-7, by-8, by-9, by-10, partOf, ModePlanned, IsPart, timesOf, Leads, IsChange, Planned, Planning, refused, planned}
+use Rattle.planning.proofs.Told.{judged-sound, scheduled-times, numbers-balanced}
+
+module _ {m : Mode} where
+  -- a mode is reckoned in one way only
+  module _ {s t u v : ℕ} {x y : ℕ → ℕ} {h g : Tick} (p : Balanced m s t x h) (q : Balanced m u v y g) where
+    periods-same : periodsOf m x h ≡ periodsOf m y g
+    periods-same =
+        of-actors m (λ i. periodOf h (firingsOf m x i)) (λ i. periodOf g (firingsOf m y i)) (tick 0)
+        (λ i a. ap (λ (n : ℕ). periodOf h (firingsOf m (λ (j : ℕ). n) i)) (smallest-same m x y (p .smallest) (q .smallest) i a)
+        ∙ ap (λ (t : Tick). periodOf t (firingsOf m y i)) (lengths-same m x y (p .smallest) (q .smallest) (p .iteration) (q .iteration)))
+
+    over-same : (n : ℕ) → Overloaded m x h n → Overloaded m y g n
+    over-same = over-again m x y (p .smallest) (q .smallest) (p .iteration) (q .iteration)
+
+    late-same : {b c : ℕ → Tick} → Starts m (periodsOf m x h) b → Starts m (periodsOf m y g) c → (i : ℕ) → Late m b t i → Late m c v i
+    late-same {b} {c} d e i =
+        let same : b ≡ c = starts-unique m (periodsOf m y g) (subst (λ (ps : List Tick). Starts m ps b) periods-same d) e in
+        subst₂ (λ (b : ℕ → Tick) (t : ℕ). Late m b t i) same (only-unique _ (p .ends .1) (q .ends .1))
+
+  unbalanced-not : {s t : ℕ} {x : ℕ → ℕ} {h : Tick} → Unbalanced m → Balanced m s t x h → ⊥
+  unbalanced-not u p = not-le-of-lt (u _ _ (p .smallest .balances) (p .iteration)) (p .within)
+
+  -- a mode has one refusal, or one part, and not both
+  pub refusal-unique : {n : ℕ} {r s : Refusal} → ModeRefused m n r → ModeRefused m n s → r ≡ s
+  refusal-unique (by-6 c) (by-6 d) = refl
+  refusal-unique (by-6 c) (by-7 n e) = absurd (n c)
+  refusal-unique (by-6 c) (by-8 n e u) = absurd (n c)
+  refusal-unique (by-6 c) (by-9 p o) = absurd (p .acyclic c)
+  refusal-unique (by-6 c) (by-10 p f b l) = absurd (p .acyclic c)
+  refusal-unique (by-7 n e) (by-6 c) = absurd (n c)
+  refusal-unique (by-7 n e) (by-7 k d) = refl
+  refusal-unique (by-7 n e) (by-8 k d u) = absurd (e _ _ d)
+  refusal-unique (by-7 n e) (by-9 p o) = absurd (e _ _ (p .ends))
+  refusal-unique (by-7 n e) (by-10 p f b l) = absurd (e _ _ (p .ends))
+  refusal-unique (by-8 n e u) (by-6 c) = absurd (n c)
+  refusal-unique (by-8 n e u) (by-7 k d) = absurd (d _ _ e)
+  refusal-unique (by-8 n e u) (by-8 k d v) = refl
+  refusal-unique (by-8 n e u) (by-9 p o) = absurd (unbalanced-not u p)
+  refusal-unique (by-8 n e u) (by-10 p f b l) = absurd (unbalanced-not u p)
+  refusal-unique (by-9 p o) (by-6 c) = absurd (p .acyclic c)
+  refusal-unique (by-9 p o) (by-7 k d) = absurd (d _ _ (p .ends))
+  refusal-unique (by-9 p o) (by-8 k d u) = absurd (unbalanced-not u p)
+  refusal-unique {n} (by-9 p o) (by-9 q w) =
+      ap (λ (i : ℕ). refusal OVERLOAD (AtProcessor n (numberOf i)))
+      (le-antisymm (o .least _ (over-same q p _ (w .holds))) (w .least _ (over-same p q _ (o .holds))))
+  refusal-unique (by-9 p o) (by-10 q f b l) = absurd (f _ (over-same p q _ (o .holds)))
+  refusal-unique (by-10 p f b l) (by-6 c) = absurd (p .acyclic c)
+  refusal-unique (by-10 p f b l) (by-7 k d) = absurd (d _ _ (p .ends))
+  refusal-unique (by-10 p f b l) (by-8 k d u) = absurd (unbalanced-not u p)
+  refusal-unique (by-10 p f b l) (by-9 q o) = absurd (f _ (over-same q p _ (o .holds)))
+  refusal-unique {n} (by-10 p f b l) (by-10 q g c k) =
+      ap (λ (i : ℕ). refusal LATE (AtActor n (numberOf i)))
+      (le-antisymm (l .least _ (late-same q p c b _ (k .holds))) (k .least _ (late-same p q b c _ (l .holds))))
+
+  pub part-unique : {p q : ModePlan} → ModePlanned m p → ModePlanned m q → p ≡ q
+  part-unique p q =
+      let same = judged-unique m (q .judged) (p .judged) in
+      p .part
+      ∙ ap₂ partOf (sym same) (scheduled-unique m _ (p .scheduled) (subst (λ (j : Judgement). Scheduled m j (q .timetable)) same (q .scheduled)))
+      ∙ sym (q .part)
+
+  pub planned-refused : {p : ModePlan} {n : ℕ} {r : Refusal} → ModePlanned m p → ModeRefused m n r → ⊥
+  planned-refused {n = n} w =
+      let (x, acyclic, numbers, bears) = judged-sound (w .judged) (w .sound) in
+      let (b, starts, prompt, times) = scheduled-times (w .scheduled) (w .on-time) in
+      go x b (numbers-balanced acyclic numbers) bears (subst (λ (ps : List Tick). Starts m ps b) (numbers .periods) starts) prompt
+    where
+      go : {s t : ℕ} {h : Tick} {r : Refusal} (x : ℕ → ℕ) (b : ℕ → Tick) → Balanced m s t x h → ((i : ℕ) → Overloaded m x h i → ⊥) → Starts m (periodsOf m x h) b
+          → ((i : ℕ) → Late m b t i → ⊥) → ModeRefused m n r → ⊥
+      go x b p f d f′ (by-6 c) = p .acyclic c
+      go x b p f d f′ (by-7 k e) = e _ _ (p .ends)
+      go x b p f d f′ (by-8 k e u) = unbalanced-not u p
+      go x b p f d f′ (by-9 q o) = f _ (over-same q p _ (o .holds))
+      go x b p f d f′ (by-10 q g c l) = f′ _ (late-same q p c d _ (l .holds))
+
+module _ (t : Table) where
+  -- a mode is listed or not
+  pub listed-or-not : (k : ℕ) → k < MODES → Dec (Listed t k)
+  listed-or-not k l =
+      ⊎-elim (λ w. yes (l, (w .0, (w .1 .below, decides-true (has-decides (modeAt t k .active) (w .0)) (w .1 .passes)))))
+      (λ n. no (λ w. decides-false (has-decides (modeAt t k .active) (w .1 .0)) (n (w .1 .0) zero-le (w .1 .1 .0)) (w .1 .1 .1)))
+      (sought (hasb (modeAt t k .active)) ACTORS 0)
+
+  pub leads-or-not : (k l : ℕ) → k < MODES → l < MODES → Dec (Leads t k l)
+  leads-or-not k l hk hl = go (listed-or-not k hk) (listed-or-not l hl) (ℕ-discrete k l)
+    where
+      go : Dec (Listed t k) → Dec (Listed t l) → Dec (k ≡ l) → Dec (Leads t k l)
+      go (yes x) (yes y) (no z) = yes (x, y, z)
+      go (yes x) (yes y) (yes z) = no (λ h. h .2 z)
+      go (yes x) (no y) z = no (λ h. y (h .1))
+      go (no x) y z = no (λ h. x (h .0))
+
+  is-part-unique : (k : ℕ) {p q : ModePlan} → k < MODES → IsPart t k p → IsPart t k q → p ≡ q
+  is-part-unique k {p} {q} l a b = go (listed-or-not k l)
+    where
+      go : Dec (Listed t k) → p ≡ q
+      go (yes h) = part-unique (a .listed h) (b .listed h)
+      go (no n) = a .unlisted n ∙ sym (b .unlisted n)
+
+  module _ (w v : Plan) (a : Planned t w) (b : Planned t v) where
+    parts-same : w .parts ≡ v .parts
+    parts-same =
+        ext-getD noPart (w .parts) (v .parts) (a .parts-long ∙ sym (b .parts-long))
+        (λ k l. let h : k < MODES = omega (arith, a .parts-long) in is-part-unique k h (a .part k h) (b .part k h))
+
+    change-same : (k l : ℕ) → k < MODES → l < MODES → changeAt w k l ≡ changeAt v k l
+    change-same k l hk hl = go (a .change k l hk hl) (b .change k l hk hl) (leads-or-not k l hk hl)
+      where
+        go : IsChange t w k l (changeAt w k l) → IsChange t v k l (changeAt v k l) → Dec (Leads t k l) → changeAt w k l ≡ changeAt v k l
+        go p q (no n) = p .leads-not n ∙ sym (q .leads-not n)
+        go p q (yes h) =
+            changes-unique _ _ (p .leads h)
+            (subst (λ (ps : List ModePlan). Changes (timesOf (modeAt t k) (getD ps k noPart)) (timesOf (modeAt t l) (getD ps l noPart)) (changeAt v k l)) (sym parts-same) (q .leads h))
+
+    changes-same : w .changes ≡ v .changes
+    changes-same =
+        ext-getD noTiming (w .changes) (v .changes) (a .changes-long ∙ sym (b .changes-long))
+        (λ n l.
+        let e : MODES * (n / MODES) + n % MODES ≡ n = omega arith in
+        subst (λ (i : ℕ). getD (w .changes) i noTiming ≡ getD (v .changes) i noTiming) e
+        (change-same (n / MODES) (n % MODES) (omega (arith, a .changes-long)) (omega arith)))
+
+    pub plan-unique : w ≡ v
+    plan-unique = λ i. record { parts = parts-same i; changes = changes-same i }
+
+  -- one outcome
+  pub planning-unique : {x y : Outcome} → Planning t x → Planning t y → x ≡ y
+  planning-unique (refused {k} {r} a f p) (refused {k = l} {r = s} b g q) = go (decLt k l) (decLt l k)
+    where
+      go : Dec (k < l) → Dec (l < k) → _≡_ {A = Outcome} (record { answer = IsRefused r; plan = emptyPlan }) (record { answer = IsRefused s; plan = emptyPlan })
+      go (yes h) d = absurd (planned-refused (g k h a .1) p)
+      go (no n) (yes h) = absurd (planned-refused (f l h b .1) q)
+      go (no n) (no d) =
+          let e : l ≡ k = omega (arith, n, d) in
+          ap (λ (r : Refusal). record { answer = IsRefused r; plan = emptyPlan }) (refusal-unique p (subst (λ (k : ℕ). ModeRefused (modeAt t k) (numberOf k) s) e q))
+  planning-unique (refused {k} a f p) (planned w) = absurd (planned-refused (w .part k (a .0) .listed a) p)
+  planning-unique (planned w) (refused {k} b g q) = absurd (planned-refused (w .part k (b .0) .listed b) q)
+  planning-unique (planned {w} a) (planned {w = v} b) = λ i. record { answer = IsPlanned; plan = plan-unique w v a b i }

@@ -1,0 +1,42 @@
+-- planning::modes::timed meets its contract. Assumes nothing.
+use borrow.Author.Needs.{needs}
+use mathlib.Core.Path.{sym, subst}
+use native.Mathlib.Omega.{arith}
+use Rattle.planning.specs.declared.modes.Piece.{Piece}
+use Rattle.planning.specs.Steps.{Comes}
+use Rattle.planning.proofs.Told.{scheduled-refuses, late-below}
+use Rattle.planning.proofs.modes.timed.Statement.{statement}
+use Rattle.planning.proofs.modes.timed.Tie as tie
+
+returns : tie.Need-returns
+returns c =
+    let d = c .before .before .before in
+    let s = d .before .before in
+    subst (λ (r : Piece). Comes (s .before .args .mode) (s .before .args .number) (r .answer) (r .part)) (sym (c .refused .ensures))
+    (rw (c .before .number-of .ensures) (scheduled-refuses _ (s .before .pre .1) (s .before .pre .2) (s .schedule .ensures) (d .timing .given .1)))
+
+returns-2 : tie.Need-returns-2
+returns-2 c =
+    let s = c .before .before .before in
+    record {
+      judgement = s .before .args .judged;
+      timetable = s .schedule .result;
+      judged = s .before .pre .1;
+      sound = s .before .pre .2;
+      scheduled = s .schedule .ensures;
+      on-time = c .before .enum-told .given .1;
+      part = c .part-of .ensures;
+    }
+
+pub timed-spec : {M : Type 1} → statement M
+timed-spec =
+    tie.close
+    (tie.spec
+    (λ c κs. search needs)
+    (λ c. search needs)
+    (λ c κs. let d = c .before in omega (arith, late-below (d .before .before .schedule .ensures) (d .timing .given .1)))
+    (λ c κs. search needs)
+    (λ c. search needs)
+    (λ c κs. search needs)
+    returns
+    returns-2)

@@ -1,0 +1,5 @@
+-- The plan of a table.
+pub mod Nothing
+pub mod Plan
+pub mod Numbers
+pub mod Steps

@@ -1,0 +1,129 @@
+-- The plan of a table: what is planned of each mode and of each change, or the refusal of the lowest mode that is refused.
+use mathlib.Core.Path.{_≡_}
+use mathlib.Core.List.{List}
+use Prim.Native.Nat.{ℕ, _+_, _*_, _≤_, _<_}
+use lib.ListN.{length, getD}
+use Rattle.numbers.specs.Extreme.{Least}
+use Rattle.units.specs.declared.Tick.{Tick}
+use Rattle.units.specs.Ticks.{tick}
+use Rattle.units.specs.Limits.{MODES, ITERATION-LIMIT}
+use Rattle.period.specs.Period.{periodOf}
+use Rattle.terms.specs.Refusal.{CYCLE, NO-ENDS, NO-BALANCE, OVERLOAD, LATE}
+use Rattle.terms.specs.declared.refusal.Place.{Place}
+use Rattle.terms.specs.declared.refusal.Place.the-variants.{Mode as AtMode, Actor as AtActor, Processor as AtProcessor}
+use Rattle.terms.specs.declared.refusal.Refusal.{Refusal}
+use Rattle.terms.specs.Place.{numberOf}
+use Rattle.tables.specs.declared.Mode.{Mode}
+use Rattle.tables.specs.declared.Table.{Table}
+use Rattle.tables.specs.Shape.{modeAt, Active}
+use Rattle.graph.specs.declared.Verdict.the-variants.{Sound}
+use Rattle.graph.specs.declared.Judgement.{Judgement}
+use Rattle.graph.specs.Order.{Cyclic}
+use Rattle.graph.specs.Ends.{Ends, NoEnds}
+use Rattle.graph.specs.Balance.{Smallest, Iteration, Unbalanced, firingsOf}
+use Rattle.graph.specs.Load.{Overloaded}
+use Rattle.graph.specs.Judged.{Judged, ofActors}
+use Rattle.schedule.specs.declared.Timing.the-variants.{OnTime}
+use Rattle.schedule.specs.declared.Timetable.{Timetable}
+use Rattle.schedule.specs.Starts.{Starts, Late}
+use Rattle.schedule.specs.Scheduled.{Scheduled}
+use Rattle.change.specs.declared.Timing.{Timing}
+use Rattle.change.specs.Change.{ModeTimes, Changes}
+use Rattle.planning.specs.declared.ModePlan.{ModePlan}
+use Rattle.planning.specs.declared.Plan.{Plan}
+use Rattle.planning.specs.declared.Answer.the-variants.{Planned as IsPlanned, Refused as IsRefused}
+use Rattle.planning.specs.declared.Outcome.{Outcome}
+use Rattle.planning.specs.Nothing.{noPart, emptyPart, noTiming, emptyPlan}
+
+-- what is planned of mode k, and of the change from mode k to mode l
+abbrev pub partAt : Plan → ℕ → ModePlan
+partAt w k = getD (w .parts) k noPart
+
+abbrev pub changeAt : Plan → ℕ → ℕ → Timing
+changeAt w k l = getD (w .changes) (MODES * k + l) noTiming
+
+-- a mode is in the plan when it has an actor
+abbrev pub Listed : Table → ℕ → Type 0
+Listed t k = (k < MODES) × ((i : ℕ) × Active (modeAt t k) i)
+
+abbrev pub refusal : ℕ → Place → Refusal
+refusal n p = record { number = n; place = p }
+
+-- the periods of a mode's actors, by their cycle counts and the iteration; 0 for an actor that is not active
+abbrev pub periodsOf : Mode → (ℕ → ℕ) → Tick → List Tick
+periodsOf m x h = ofActors m (λ i. periodOf h (firingsOf m x i)) (tick 0)
+
+-- None of 6 to 8 applies to a mode: s is its source, t its sink, x are its smallest cycle counts and h is its iteration, within the limit.
+pub record Balanced (m : Mode) (s t : ℕ) (x : ℕ → ℕ) (h : Tick) : Type 0 where
+  pub acyclic : Cyclic m → ⊥
+  pub ends : Ends m s t
+  pub smallest : Smallest m x
+  pub iteration : Iteration m x h
+  pub within : h .0 ≤ ITERATION-LIMIT .0
+
+-- The mode with number n is refused: by the first of 6 to 10 that applies, with the place that it names. 9 names the lowest processor above the load limit, and 10,
+-- with b the least starts of the mode's actors, the lowest actor that starts later than the sink.
+pub data ModeRefused (m : Mode) (n : ℕ) : Refusal → Type 0 where
+  by-6 : Cyclic m → ModeRefused m n (refusal CYCLE (AtMode n))
+  by-7 : (Cyclic m → ⊥) → NoEnds m → ModeRefused m n (refusal NO-ENDS (AtMode n))
+  by-8 : {s t : ℕ} → (Cyclic m → ⊥) → Ends m s t → Unbalanced m → ModeRefused m n (refusal NO-BALANCE (AtMode n))
+  by-9 : {s t p : ℕ} {x : ℕ → ℕ} {h : Tick} → Balanced m s t x h → Least (Overloaded m x h) p
+      → ModeRefused m n (refusal OVERLOAD (AtProcessor n (numberOf p)))
+  by-10 : {s t a : ℕ} {x : ℕ → ℕ} {h : Tick} {b : ℕ → Tick} → Balanced m s t x h → ((p : ℕ) → Overloaded m x h p → ⊥) → Starts m (periodsOf m x h) b
+      → Least (Late m b t) a → ModeRefused m n (refusal LATE (AtActor n (numberOf a)))
+
+-- the numbers of a mode that is judged and scheduled
+abbrev pub partOf : Judgement → Timetable → ModePlan
+partOf j s =
+    record {
+      source = j .source;
+      sink = j .sink;
+      iteration = j .iteration;
+      startup = s .startup;
+      firings = j .firings;
+      periods = j .periods;
+      starts = s .starts;
+      sizes = s .sizes;
+      tokens = s .tokens;
+    }
+
+-- A mode is not refused, and p is what is planned of it.
+pub record ModePlanned (m : Mode) (p : ModePlan) : Type 0 where
+  pub judgement : Judgement
+  pub timetable : Timetable
+  pub judged : Judged m judgement
+  pub sound : judgement .verdict ≡ Sound
+  pub scheduled : Scheduled m judgement timetable
+  pub on-time : timetable .timing ≡ OnTime
+  pub part : p ≡ partOf judgement timetable
+
+-- what is planned of mode k of a table: nothing where it is not listed
+pub record IsPart (t : Table) (k : ℕ) (p : ModePlan) : Type 0 where
+  pub listed : Listed t k → ModePlanned (modeAt t k) p
+  pub unlisted : (Listed t k → ⊥) → p ≡ emptyPart
+
+-- a mode and what is planned of it, as a change sees them
+abbrev pub timesOf : Mode → ModePlan → ModeTimes
+timesOf m p = record { active = m .active; actors = m .actors; iteration = p .iteration; periods = p .periods; starts = p .starts; startup = p .startup }
+
+-- a change leads from a listed mode to another
+abbrev pub Leads : Table → ℕ → ℕ → Type 0
+Leads t k l = Listed t k × Listed t l × (k ≡ l → ⊥)
+
+-- c is the change from mode k to mode l: all 0 where there is none
+pub record IsChange (t : Table) (w : Plan) (k l : ℕ) (c : Timing) : Type 0 where
+  pub leads : Leads t k l → Changes (timesOf (modeAt t k) (partAt w k)) (timesOf (modeAt t l) (partAt w l)) c
+  pub leads-not : (Leads t k l → ⊥) → c ≡ noTiming
+
+-- w is the plan of a table of which no mode is refused
+pub record Planned (t : Table) (w : Plan) : Type 0 where
+  pub parts-long : length (w .parts) ≡ MODES
+  pub part : (k : ℕ) → k < MODES → IsPart t k (partAt w k)
+  pub changes-long : length (w .changes) ≡ MODES * MODES
+  pub change : (k l : ℕ) → k < MODES → l < MODES → IsChange t w k l (changeAt w k l)
+
+-- The lowest mode that is refused, of those that are listed, refuses the table, and there is no plan; or there is one.
+pub data Planning (t : Table) : Outcome → Type 0 where
+  refused : {k : ℕ} {r : Refusal} → Listed t k → ((l : ℕ) → l < k → Listed t l → (p : ModePlan) × ModePlanned (modeAt t l) p)
+      → ModeRefused (modeAt t k) (numberOf k) r → Planning t (record { answer = IsRefused r; plan = emptyPlan })
+  planned : {w : Plan} → Planned t w → Planning t (record { answer = IsPlanned; plan = w })

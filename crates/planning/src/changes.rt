@@ -1,0 +1,111 @@
+// The changes between the modes of a table.
+use crate::ModePlan;
+use change::Running;
+use change::Timing;
+use change::change;
+use change::prepare;
+use tables::Actor;
+use tables::Table;
+use units::Firing;
+use units::Tick;
+use units::limits::ACTORS;
+use units::limits::MODES;
+ghost use mathlib.Core.Path.{_≡_};
+ghost use Prim.Native.Nat.{_*_};
+ghost use Rattle.units.specs.Limits.{MODES};
+ghost use Rattle.tables.specs.Proper.{ProperTable};
+ghost use Rattle.change.specs.Running.{Ready};
+ghost use Rattle.planning.specs.Nothing.{noTiming};
+ghost use Rattle.planning.specs.Steps.{idleRunning, runningsOf, AllReady, Between, FoundParts, FoundChanges};
+
+// No change.
+pub(crate) fn none() -> Timing
+    ensures { λ r. ⌜ r ≡ noTiming ⌝ }
+{
+    Timing {
+        overlap: Tick::NONE,
+        offset: Tick::NONE,
+        worst: Tick::NONE,
+    }
+}
+
+// A mode in which nothing runs.
+fn idle() -> Running
+    ensures { λ r. ⌜ r ≡ idleRunning ⌝ }
+{
+    let actor = Actor {
+        phases: 0,
+        wcet: Tick::NONE,
+        processor: 0,
+    };
+    Running {
+        active: 0,
+        actors: [actor; ACTORS],
+        iteration: Tick::NONE,
+        firings: [Firing::NONE; ACTORS],
+        periods: [Tick::NONE; ACTORS],
+        starts: [Tick::NONE; ACTORS],
+        startup: Tick::NONE,
+        since: [Tick::NONE; ACTORS],
+        until: [Tick::NONE; ACTORS],
+    }
+}
+
+// The modes of a table with these parts, as they run.
+pub(crate) fn runnings_of(table: Table, parts: [ModePlan; MODES]) -> [Running; MODES]
+    requires { ⌜ ProperTable table × FoundParts table parts MODES ⌝ }
+    ensures { λ r. ⌜ r ≡ runningsOf table parts ⌝ }
+{
+    let mut runnings = [idle(); MODES];
+    for k in 0..MODES {
+        let mode = table.modes[k];
+        if mode.active != 0 {
+            let part = parts[k];
+            let actors = mode.actors;
+            let firings = part.firings;
+            let periods = part.periods;
+            let starts = part.starts;
+            runnings[k] = prepare(
+                mode.active,
+                actors,
+                part.iteration,
+                firings,
+                periods,
+                starts,
+                part.startup,
+            );
+        }
+    }
+    runnings
+}
+
+// The change from the mode at place k to the mode at place l.
+fn between(old: Running, new: Running, k: usize, l: usize) -> Timing
+    requires { ⌜ ((old .active ≡ 0 → ⊥) → Ready old) × ((new .active ≡ 0 → ⊥) → Ready new) ⌝ }
+    ensures { λ r. ⌜ Between old new k l r ⌝ }
+{
+    if old.active == 0 {
+        return none();
+    }
+    if new.active == 0 {
+        return none();
+    }
+    if k == l {
+        return none();
+    }
+    change(old, new)
+}
+
+// The changes between all pairs of modes.
+pub(crate) fn changes_of(runnings: [Running; MODES]) -> [Timing; MODES * MODES]
+    requires { ⌜ AllReady runnings ⌝ }
+    ensures { λ r. ⌜ FoundChanges runnings r (MODES * MODES) ⌝ }
+{
+    let mut changes = [none(); MODES * MODES];
+    for n in 0..MODES * MODES {
+        let k = n / MODES;
+        let l = n % MODES;
+        changes[n] = between(runnings[k], runnings[l], k, l);
+    }
+    changes
+}

@@ -1,7 +1,0 @@
--- whole::modes::refused meets its contract. Assumes nothing.
-use borrow.Author.Needs.{needs}
-use Rattle.whole.proofs.modes.refused.Statement.{statement}
-use Rattle.whole.proofs.modes.refused.Tie as tie
-
-pub refused-spec : {M : Type 1} → statement M
-refused-spec = tie.close (tie.spec (λ c κs. search needs) (λ c. rw (c .nothing .ensures)))
