@@ -10,7 +10,7 @@ use borrow.Author.Tests.{eqb-true, eqb-false}
 use lib.Dec.{eqb}
 use lib.ListN.{length, getD}
 use lib.Seq.{length-take-le, getD-take}
-use Rattle.numbers.specs.Extreme.{Least, First, mostOf, most-above, most-at, most-within}
+use Rattle.numbers.specs.Extreme.{Least, ExactlyFirst, mostOf, most-above, most-at, most-within}
 use Rattle.numbers.specs.Reckoned.{gcd-of}
 use Rattle.numbers.specs.Sum.{sum, sum-more, sum-most, sum-next}
 use Rattle.units.specs.declared.Tick.{Tick}
@@ -210,7 +210,7 @@ module _ (p c : End) (w : Paced p c) where
         most : ℕ
         most = mostOf (λ f. mostOf (row f) (p .phases)) (c .phases)
 
-        none-ended : (e : ℕ) → First (λ k. sc .0 + (k + 1) * c .period .0 ≤ 0) e → e ≡ 0
+        none-ended : (e : ℕ) → ExactlyFirst (λ k. sc .0 + (k + 1) * c .period .0 ≤ 0) e → e ≡ 0
         none-ended zero h = refl
         none-ended (suc e) h = absurd (omega (arith, h 0 .0 (zero-lt-suc e), period-c))
 

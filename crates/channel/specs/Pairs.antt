@@ -6,7 +6,7 @@ use native.Mathlib.Nat.{le-refl, lt-irrefl, lt-of-not-le, le-of-lt, le-trans, mo
 use native.Mathlib.Omega.{arith}
 use native.Mathlib.Decide.{decLe, decLt}
 use lib.Dec.{leb}
-use Rattle.numbers.specs.Extreme.{First}
+use Rattle.numbers.specs.Extreme.{ExactlyFirst}
 use Rattle.numbers.specs.Quotient.{div-difference}
 use Rattle.numbers.specs.Sum.{sum, sum-next, sum-more, sum-longer, rounds, sum-rounds}
 use Rattle.units.specs.declared.Tick.{Tick}
@@ -50,14 +50,14 @@ beyond-quotient x y g G m l pos h = go (leb (y % g) (x % g)) (div-difference x y
 -- The producer makes rp i in firing i, with period tp from sp on; the consumer takes rc i, with period tc from sc on; x tokens are there at the start.
 -- No firing takes a token not yet there:
 abbrev pub FedBy : (ℕ → ℕ) → (ℕ → ℕ) → ℕ → ℕ → ℕ → ℕ → ℕ → Type 0
-FedBy rp rc tp tc x sp sc = (n : ℕ) → 0 < rc n → (e : ℕ) → First (λ k. sp + (k + 1) * tp ≤ sc + n * tc) e → sum rc (n + 1) ≤ x + sum rp e
+FedBy rp rc tp tc x sp sc = (n : ℕ) → 0 < rc n → (e : ℕ) → ExactlyFirst (λ k. sp + (k + 1) * tp ≤ sc + n * tc) e → sum rc (n + 1) ≤ x + sum rp e
 
 -- v places are claimed at tick t:
 pub record ClaimedBy (rp rc : ℕ → ℕ) (tp tc x sp sc t v : ℕ) : Type 0 where
   pub b : ℕ
   pub e : ℕ
-  pub begun : First (λ k. sp + k * tp ≤ t) b
-  pub ended : First (λ k. sc + (k + 1) * tc ≤ t) e
+  pub begun : ExactlyFirst (λ k. sp + k * tp ≤ t) b
+  pub ended : ExactlyFirst (λ k. sc + (k + 1) * tc ≤ t) e
   pub claimed : x + sum rp b ≡ sum rc e + v
 
 -- The rates repeat after np and nc firings, and K cycles of the producer are added where a difference is taken.
@@ -222,7 +222,7 @@ module _ (rp rc : ℕ → ℕ) (np nc tp tc : ℕ) (round-p : (i : ℕ) → rp (
         let enough : sum rc (e .0) ≤ x + sum rp (b .0) = given (b .0) begun (e .0) (λ k l. ended k .0 l) in
         (x + sum rp (b .0) - sum rc (e .0), record { b = b .0; e = e .0; begun = begun; ended = ended; claimed = omega arith })
       where
-        given : (b : ℕ) → First (λ k. sp + k * tp ≤ t) b → (e : ℕ) → ((k : ℕ) → k < e → sc + (k + 1) * tc ≤ t) → sum rc e ≤ x + sum rp b
+        given : (b : ℕ) → ExactlyFirst (λ k. sp + k * tp ≤ t) b → (e : ℕ) → ((k : ℕ) → k < e → sc + (k + 1) * tc ≤ t) → sum rc e ≤ x + sum rp b
         given b begun zero h = omega arith
         given b begun (suc n) h = go (decLe 1 (rc n)) (given b begun n (λ k l. h k (omega arith)))
           where

@@ -67,7 +67,7 @@ front-row (FrontRefused.by-row f (by-5 x y z)) = (omega arith, omega arith)
 after-row : {earlier : List Row} {text : List ℕ} {o : Rows} → After earlier text o → OfRow o
 after-row After.done = tt
 after-row (After.stopped h x) = front-row x
-after-row (After.next f p a) = after-row a
+after-row (After.passed f p a) = after-row a
 
 of-row : {text : List ℕ} {o : Rows} → Of text o → OfRow o
 of-row (Of.wrong-length l) = (omega arith, omega arith)

@@ -146,7 +146,7 @@ pub record Demand2 : Type 0 where
 -- of the table t and its plan w that leave the words
 pub record Runs (t : Table) (w : Plan) (words : List ℕ) : Type 0 where
   -- of every run of the plan all of this holds (`Demand3` of run's specs/Demand.antt) ..
-  pub holds : Run′.Demand3 (planOf t w)
+  pub holds : Run′.RightRuns (planOf t w)
   -- .. and a machine that begins, and answers any requests one after the other, is the machine of such a run
   pub machine-runs : {mode : ℕ} {m n : Machine} {rs : List Run.Request} → Begins words mode (Start′.Begun m) → Follows words m rs n
       → (k : ℕ) × T (isListed t k) × (seen n ≡ Run.run (planOf t w) (Run.begin (planOf t w) k) rs .now)

@@ -17,7 +17,7 @@ use Rattle.numbers.specs.Lowest.{lowest-is}
 use Rattle.units.specs.Limits.{ACTORS}
 use Rattle.tables.specs.declared.Mode.{Mode}
 use Rattle.tables.specs.Proper.{ProperMode}
-use Rattle.graph.specs.Ends.{First, Last, Only, Ends, NoEnds}
+use Rattle.graph.specs.Ends.{IsSource, IsSink, Only, Ends, NoEnds}
 use Rattle.graph.specs.Rounds.{predsOf, chosen, firstsOf, giversFrom, lastsOf, lowestOf}
 use Rattle.graph.proofs.Sorted.{preds-joins, to-active}
 
@@ -85,14 +85,14 @@ module _ (s : ℕ) (P : ℕ → Type 0) (has : (i : ℕ) → Has s i ↔ P i) (b
   only-size i (p, u) = one-size ACTORS s i (below i p) (has i .1 p) (λ j l h. u j (has j .0 h))
 
 module _ (m : Mode) (proper : ProperMode m) where
-  firsts-are : (i : ℕ) → Has (firsts m) i ↔ First m i
+  firsts-are : (i : ℕ) → Has (firsts m) i ↔ IsSource m i
   firsts-are i =
       let has = chosen-has (λ i. eqb (getD (predsOf m) i 0) 0) (λ i. getD (predsOf m) i 0 ≡ 0) (λ i. decides-eqb (getD (predsOf m) i 0) 0 ((λ h. h), (λ h. h))) (m .active) ACTORS i in (
         (λ h. let (l, a, e) = has .0 h in (l, a, λ j q. omega (arith, preds-joins m proper i j l .1 q, ap (λ (s : ℕ). bit s j) e, bit-zero j))),
         (λ (l, a, n). has .1 (l, a, empty (getD (predsOf m) i 0) (λ j h. n j (preds-joins m proper i j l .0 h)))),
       )
 
-  lasts-are : (i : ℕ) → Has (lasts m) i ↔ Last m i
+  lasts-are : (i : ℕ) → Has (lasts m) i ↔ IsSink m i
   lasts-are i =
       let givers = giversFrom (predsOf m) ACTORS in
       let has = chosen-has (λ i. not (hasb givers i)) (λ i. Has givers i → ⊥) (λ i. decides-not (hasb givers i) (has-decides givers i)) (m .active) ACTORS i in (
@@ -102,7 +102,7 @@ module _ (m : Mode) (proper : ProperMode m) where
 
   pub ends-found : size ACTORS (firsts m) ≡ 1 → size ACTORS (lasts m) ≡ 1
       → Ends m (lowestOf (firsts m)) (lowestOf (lasts m))
-  ends-found f l = (only-lowest (firsts m) (First m) firsts-are (λ i p. p .0) f, only-lowest (lasts m) (Last m) lasts-are (λ i p. p .0) l)
+  ends-found f l = (only-lowest (firsts m) (IsSource m) firsts-are (λ i p. p .0) f, only-lowest (lasts m) (IsSink m) lasts-are (λ i p. p .0) l)
 
   pub ends-none : ((size ACTORS (firsts m) ≡ 1) × (size ACTORS (lasts m) ≡ 1) → ⊥) → NoEnds m
-  ends-none n s t (f, l) = n (only-size (firsts m) (First m) firsts-are (λ i p. p .0) s f, only-size (lasts m) (Last m) lasts-are (λ i p. p .0) t l)
+  ends-none n s t (f, l) = n (only-size (firsts m) (IsSource m) firsts-are (λ i p. p .0) s f, only-size (lasts m) (IsSink m) lasts-are (λ i p. p .0) t l)

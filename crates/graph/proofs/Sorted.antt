@@ -23,7 +23,7 @@ use Rattle.tables.specs.Shape.{channelAt, Active}
 use Rattle.tables.specs.Proper.{ProperMode}
 use Rattle.graph.specs.declared.order.Order.{Order}
 use Rattle.graph.specs.Order.{Joins, Path, one, more, Cyclic, Leads, start, step, Depth, Ranked}
-use Rattle.graph.specs.Ends.{First}
+use Rattle.graph.specs.Ends.{IsSource}
 use Rattle.graph.specs.Rounds.{joined, predsFrom, predsOf, moved, ready, roundFrom, unordered, orderFrom, orderOf}
 
 -- one channel, one actor and one round more, as a loop counts
@@ -281,7 +281,7 @@ module _ (m : Mode) (proper : ProperMode m) where
       go i y (idle x h) = absurd (omega (arith, x .left))
 
   -- depths: 0 without incoming channels, and greater behind each channel
-  pub depth-first : (i : ℕ) → Active m i → Depth m i 0 → First m i
+  pub depth-first : (i : ℕ) → Active m i → Depth m i 0 → IsSource m i
   depth-first i a p = (a .0, a .1, λ j e. not-suc-le-zero (p .greatest 1 (step start e)))
 
   pub depth-joined : (i d : ℕ) → Depth m i d → 0 < d → (j : ℕ) × Joins m j i

@@ -17,7 +17,7 @@ use Rattle.run.specs.Plan.{Acts}
 use Rattle.run.specs.Machine as Run
 use Rattle.run.specs.Machine.{Request, Run, visit, visits, stays, leaves, begin, answer, run}
 use Rattle.run.specs.Firing.{total, isOpen, openIn, underWay, fires, begins}
-use Rattle.run.specs.Demand.{EveryRun, Demand3}
+use Rattle.run.specs.Demand.{EveryRun, RightRuns}
 use Rattle.run.proofs.Sound.{Sound}
 use Rattle.run.proofs.Delay as Delay
 use Rattle.run.proofs.Beside as Beside
@@ -37,7 +37,7 @@ use Rattle.machine.specs.Answers.{seen, asking, machine, Begins, accepti
 use Rattle.machine.proofs.Unique.{same-refusal}
 
 -- what an accepted text leaves in the words is the plan of one table, and demand 3 holds of it
-pub closed : (text before words : List ℕ) → Plans text before Plan-accepted words → (t : Table) × (w : Plan) × Leaves t w words × Demand3 (planOf t w)
+pub closed : (text before words : List ℕ) → Plans text before Plan-accepted words → (t : Table) × (w : Plan) × Leaves t w words × RightRuns (planOf t w)
 closed text before words p = let (t, w, l) = stored-leaves words (text, before, p) in (t, w, l, demand (leaves-proper l) (l .planned))
 
 -- the machine that is begun
@@ -60,7 +60,7 @@ module _ {t : Table} {w : Plan} {words : List ℕ} (l : Leaves t w words) where
       rw (ne-eqb (Run.refusal (planOf t w) (s .now) r) 0 (λ z. omega (arith, f, same-refusal k l r e, z))) e
   answers-run s r e (Answers.accepted k f) =
       rw (eq-eqb (Run.refusal (planOf t w) (s .now) r) 0 (sym (same-refusal k l r e) ∙ f))
-      (λ i. Run.next (planOf (leaves-table k l i) (leaves-plan k l i)) (e i) r)
+      (λ i. Run.changed (planOf (leaves-table k l i) (leaves-plan k l i)) (e i) r)
 
   -- answered one after the other, requests lead to the machine of the run
   pub follows-run : {m n : Machine} {rs : List Request} (s : Run) → seen m ≡ s .now → Follows words m rs n → seen n ≡ run (planOf t w) s rs .now

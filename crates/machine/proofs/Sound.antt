@@ -1,16 +1,15 @@
 -- The plan of a table is sound, so demand 3 holds of it. Assumes nothing.
-use mathlib.Core.Path.{_≡_, refl, sym, ap, subst, subst₂, _∙_}
+use mathlib.Core.Path.{_≡_, refl, ap, subst}
 use mathlib.Core.Bool.{Bool, true, false, not, cond, _&&_}
-use mathlib.Core.Logic.{_≢_, _⊎_, inl, inr}
-use Prim.Native.Nat.{ℕ, suc, _+_, _-_, _*_, _≤_, _<_, zero-le}
+use mathlib.Core.Logic.{_≢_}
+use Prim.Native.Nat.{ℕ, suc, _+_, _-_, _*_, _≤_, _<_}
 use native.Mathlib.Omega.{arith}
 use native.Mathlib.Decide.{decLe}
 use borrow.Author.Tests.{eqb-true}
 use lib.Dec.{T, eqb, leb, ltb}
 use Rattle.numbers.specs.Bits.{Has, hasb, has-decides}
-use Rattle.numbers.specs.Decides.{Decides, decides-and, decides-not, decides-eqb, decides-leb, decides-true, decides-false}
-use Rattle.numbers.specs.Fraction.{AtMost, plus, sum-alike, sum-common, nothing}
-use Rattle.numbers.specs.Lowest.{sought, lowest-is, FirstPasses, NonePasses}
+use Rattle.numbers.specs.Decides.{Decides, decides-and, decides-not, decides-eqb, decides-leb, decides-true}
+use Rattle.numbers.specs.Fraction.{AtMost, plus, sum-common, nothing}
 use Rattle.numbers.specs.Sum.{sum-none}
 use Rattle.numbers.specs.declared.fraction.Fraction.{Fraction}
 use Rattle.units.specs.Bounds.{MOST-START}
@@ -19,7 +18,6 @@ use Rattle.units.specs.Firings.{firing}
 use Rattle.units.specs.declared.Tick.{Tick}
 use Rattle.units.specs.Ticks.{tick}
 use Rattle.tables.specs.declared.Table.{Table}
-use Rattle.tables.specs.Shape.{modeAt, actorAt}
 use Rattle.tables.specs.Proper.{ProperTable}
 use Rattle.change.specs.declared.Running.{Running}
 use Rattle.change.specs.Change.{starts-after}
@@ -30,10 +28,10 @@ use Rattle.planning.specs.Plan.{Listed, changeAt, Planned}
 use Rattle.planning.proofs.Running.{listed-some, listed-none}
 use Rattle.run.specs.Plan.{Acts, startup}
 use Rattle.run.specs.Machine.{worst}
-use Rattle.run.specs.Demand.{Demand3}
+use Rattle.run.specs.Demand.{RightRuns}
 use Rattle.run.proofs.Demand.{demand-3}
-use Rattle.run.proofs.Sound.{Sound, askedOf}
-use Rattle.machine.specs.Plan.{modeOf, partOf, isListed, processorOf, planOf}
+use Rattle.run.proofs.Sound.{Sound}
+use Rattle.machine.specs.Plan.{modeOf, partOf, isListed, planOf}
 use Rattle.machine.proofs.Running.{Runs, mode-runs}
 
 -- the number of a processor
@@ -84,19 +82,6 @@ module _ (t : Table) (proper : ProperTable t) where
   pub is-listed : (m : ℕ) → 1 ≤ m → Listed t (m - 1) → T (isListed t m)
   is-listed m some l = listed m .1 (some, (omega (arith, some, l .0), listed-none t (m - 1) l))
 
-  -- an actor's processor in any mode
-  home : (k i : ℕ) → k < MODES → i < ACTORS → Has (modeAt t k .active) i → processorOf t i ≡ actorAt (modeAt t k) i .processor
-  home k i l a h = go (sought has MODES 0)
-    where
-      has : ℕ → Bool
-      has n = hasb (modeAt t n .active) i
-
-      go : ((j : ℕ) × FirstPasses has MODES 0 j) ⊎ NonePasses has MODES 0 → processorOf t i ≡ actorAt (modeAt t k) i .processor
-      go (inl (j, p)) =
-          ap (λ (n : ℕ). actorAt (modeAt t n) i .processor) (lowest-is has 0 MODES 0 j p)
-          ∙ proper .home j k i (p .below) l a (decides-true (has-decides (modeAt t j .active) i) (p .passes)) h
-      go (inr n) = absurd (decides-false (has-decides (modeAt t k .active) i) (n k zero-le l) h)
-
 module _ (t : Table) (w : Plan) (proper : ProperTable t) (planned : Planned t w) where
   abbrev running : ℕ → Running
   running m = runningOf (modeOf t m) (partOf w m)
@@ -111,18 +96,6 @@ module _ (t : Table) (w : Plan) (proper : ProperTable t) (planned : Planned t w)
       let (a, old) = listed-is t proper o ho in
       let (b, new) = listed-is t proper l hl in
       planned .change (o - 1) (l - 1) (old .0) (new .0) .leads (old, new, λ e. other (omega (arith, a, b, e)))
-
-  -- the run asks of a processor what the change asks
-  asked : (m q : ℕ) → T (isListed t m) → (counts : ℕ → Bool) → askedOf (planOf t w) m q counts ≡ asksOf (running m) q counts
-  asked m q h counts = sum-alike _ _ ACTORS (λ i l. go i l (hasb (modeOf t m .active) i) refl)
-    where
-      go : (i : ℕ) → i < ACTORS → (b : Bool) → hasb (modeOf t m .active) i ≡ b
-          → cond ((b && eqb (processorOf t i) q) && counts i) (asks (running m) i) nothing
-          ≡ cond ((b && eqb (actorAt (modeOf t m) i .processor) q) && counts i) (asks (running m) i) nothing
-      go i l false e = refl
-      go i l true e =
-          ap (λ (n : ℕ). cond (eqb n q && counts i) (asks (running m) i) nothing)
-          (home t proper (m - 1) i (listed-is t proper m h .1 .0) l (decides-true (has-decides (modeOf t m .active) i) e))
 
   acts : (m i : ℕ) → Acts (planOf t w) m i → (i < ACTORS) × Has (modeOf t m .active) i
   acts m i a = (a .0, has-decides (modeOf t m .active) i .0 (a .1))
@@ -160,10 +133,8 @@ module _ (t : Table) (w : Plan) (proper : ProperTable t) (planned : Planned t w)
         balanced = λ m c h l k. runs m h .balanced c l k;
         fed = λ m c h l n some e ended. runs m h .fed c l n some _ (firing e, ended, refl);
         sized = λ m c h l x b e v begun ended claimed. runs m h .size c l .greatest v (tick x, (firing b, firing e, begun, ended, claimed));
-        load = λ m q h. subst (λ (f : Fraction). AtMost f LOAD-LIMIT) (sym (asked m q h (λ i. true))) (alone m q h (processor-or-not q));
-        change = λ o l q k ho hl other d s.
-            subst₂ (λ (f g : Fraction). AtMost (plus f g) LOAD-LIMIT) (sym (asked o q ho _)) (sym (asked l q hl _))
-            (together o l q k ho hl other d s (processor-or-not q));
+        load = λ m q h. alone m q h (processor-or-not q);
+        change = λ o l q k ho hl other d s. together o l q k ho hl other d s (processor-or-not q);
         waits = λ o l i ho hl other a b. starts-after (timesIn (running o)) (timesIn (running l)) (changes o l ho hl other) i (acts o i a) (acts l i b);
       }
     where
@@ -176,5 +147,5 @@ module _ (t : Table) (w : Plan) (proper : ProperTable t) (planned : Planned t w)
       together o l q k ho hl other d s (yes p) = changes o l ho hl other .offset .holds .2 k q d (omega (arith, s, startup-is o ho)) (p .0) (p .1)
       together o l q k ho hl other d s (no n) = neither _ _ (nowhere (running o) (runs o ho .ready) q n _) (nowhere (running l) (runs l hl .ready) q n _)
 
-pub demand : {t : Table} {w : Plan} → ProperTable t → Planned t w → Demand3 (planOf t w)
+pub demand : {t : Table} {w : Plan} → ProperTable t → Planned t w → RightRuns (planOf t w)
 demand {t} {w} proper planned = demand-3 (planOf t w) (sound t w proper planned)

@@ -6,7 +6,7 @@ use lib.Dec.{T}
 use Rattle.numbers.specs.Extreme.{Least}
 use Rattle.units.specs.declared.Tick.{Tick}
 use Rattle.units.specs.Ticks.{tick}
-use Rattle.terms.specs.Refusal.{NO-MODE, NO-PLAN}
+use Rattle.terms.specs.Refusal.{NO-MODE, NO-PLAN, refusalAt}
 use Rattle.terms.specs.declared.refusal.Place.the-variants.{Nowhere}
 use Rattle.terms.specs.declared.refusal.Refusal.{Refusal}
 use Rattle.tables.specs.declared.Table.{Table}
@@ -23,7 +23,7 @@ use Rattle.machine.specs.declared.Answer.{Answer}
 
 -- refusals of a start or a request name no place
 abbrev pub refusalOf : ℕ → Refusal
-refusalOf n = record { number = n; place = Nowhere }
+refusalOf n = refusalAt n Nowhere
 
 -- a machine and a request as the run sees them, and back
 abbrev pub seen : Machine → Run.Machine
@@ -55,7 +55,7 @@ refusing m n = record { reply = Refused (refusalOf n); machine = m }
 -- the answer that accepts: the delay, and the machine after the change
 abbrev pub accepting : RunPlan → Machine → ℕ → Tick → Answer
 accepting p m mode clock =
-    record { reply = Accepted (tick (Run.delay p (seen m) (asking mode clock))); machine = machine (Run.next p (seen m) (asking mode clock)) }
+    record { reply = Accepted (tick (Run.delay p (seen m) (asking mode clock))); machine = machine (Run.changed p (seen m) (asking mode clock)) }
 
 -- The answer to a request: 15 where no accepted table leaves the words, then the first of 16 and 11 to 14 that applies; and otherwise the delay, with the machine in the
 -- new mode, which starts at F + d.

@@ -4,7 +4,6 @@ use mathlib.Core.Bool.{Bool, not, _&&_}
 use lib.Dec.{eqb, leb}
 use lib.ListN.{getD, take}
 use Rattle.numbers.specs.Bits.{hasb}
-use Rattle.numbers.specs.Lowest.{lowestOr}
 use Rattle.units.specs.Limits.{MODES, ACTORS}
 use Rattle.units.specs.Firings.{firing}
 use Rattle.units.specs.Ticks.{tick}
@@ -30,17 +29,13 @@ partOf w m = partAt w (placeOf m)
 abbrev pub isListed : Table → ℕ → Bool
 isListed t m = leb 1 m && (leb m MODES && not (eqb (modeOf t m .active) 0))
 
--- the processor of actor i: the one that it has in the lowest mode in which it is active
-abbrev pub processorOf : Table → ℕ → ℕ
-processorOf t i = actorAt (modeAt t (lowestOr (λ k. hasb (modeAt t k .active) i) 0 MODES 0)) i .processor
-
 abbrev pub planOf : Table → Plan → RunPlan
 planOf t w =
     record {
       listed = isListed t;
       actors = ACTORS;
       active = λ m i. hasb (modeOf t m .active) i;
-      processor = processorOf t;
+      processor = λ m i. actorAt (modeOf t m) i .processor;
       wcet = λ m i. actorAt (modeOf t m) i .wcet .0;
       firings = λ m i. getD (partOf w m .firings) i (firing 0) .0;
       period = λ m i. getD (partOf w m .periods) i (tick 0) .0;

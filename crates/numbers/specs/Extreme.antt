@@ -18,8 +18,8 @@ pub record Greatest (P : ℕ → Type 0) (n : ℕ) : Type 0 where
   pub greatest : (m : ℕ) → P m → m ≤ n
 
 -- n numbers have the property P: those below n, and no others
-abbrev pub First : (ℕ → Type 0) → ℕ → Type 0
-First P n = (k : ℕ) → (k < n) ↔ P k
+abbrev pub ExactlyFirst : (ℕ → Type 0) → ℕ → Type 0
+ExactlyFirst P n = (k : ℕ) → (k < n) ↔ P k
 
 pub least-unique : (P : ℕ → Type 0) {n m : ℕ} → Least P n → Least P m → n ≡ m
 least-unique P {n} {m} p q = le-antisymm (p .least m (q .holds)) (q .least n (p .holds))
@@ -27,10 +27,10 @@ least-unique P {n} {m} p q = le-antisymm (p .least m (q .holds)) (q .least n (p 
 pub greatest-unique : (P : ℕ → Type 0) {n m : ℕ} → Greatest P n → Greatest P m → n ≡ m
 greatest-unique P {n} {m} p q = le-antisymm (q .greatest n (p .holds)) (p .greatest m (q .holds))
 
-pub first-unique : (P : ℕ → Type 0) {n m : ℕ} → First P n → First P m → n ≡ m
+pub first-unique : (P : ℕ → Type 0) {n m : ℕ} → ExactlyFirst P n → ExactlyFirst P m → n ≡ m
 first-unique P {n} {m} p q = le-antisymm (at-most p q) (at-most q p)
   where
-    at-most : {a b : ℕ} → First P a → First P b → a ≤ b
+    at-most : {a b : ℕ} → ExactlyFirst P a → ExactlyFirst P b → a ≤ b
     at-most {a} {b} f g = go (decLe a b)
       where
         go : Dec (a ≤ b) → a ≤ b

@@ -4,7 +4,7 @@ use Prim.Native.Nat.{ℕ, suc, _+_, _-_, _*_, _/_, _≤_, _<_}
 use native.Mathlib.Nat.{not-suc-le-zero, not-le-of-lt, le-div-iff-mul-le}
 use native.Mathlib.Omega.{arith}
 use Rattle.numbers.specs.Common.{IsLcm}
-use Rattle.numbers.specs.Extreme.{First, least-unique}
+use Rattle.numbers.specs.Extreme.{ExactlyFirst, least-unique}
 use Rattle.numbers.specs.Multiples.{lcm-unique}
 use Rattle.numbers.specs.Quotient.{RoundedUp}
 use Rattle.numbers.specs.declared.fraction.Fraction.{Fraction}
@@ -31,11 +31,11 @@ endsAt start period n = beginsAt start period (next n)
 
 -- n firings have begun by the tick, that tick included: those below n, and no others
 abbrev pub HaveBegun : Tick → Tick → Tick → Firing → Type 0
-HaveBegun start period by n = First (λ k. beginsAt start period (firing k) .0 ≤ by .0) (n .0)
+HaveBegun start period by n = ExactlyFirst (λ k. beginsAt start period (firing k) .0 ≤ by .0) (n .0)
 
 -- n firings have ended by the tick, that tick included: those below n, and no others
 abbrev pub HaveEnded : Tick → Tick → Tick → Firing → Type 0
-HaveEnded start period by n = First (λ k. endsAt start period (firing k) .0 ≤ by .0) (n .0)
+HaveEnded start period by n = ExactlyFirst (λ k. endsAt start period (firing k) .0 ≤ by .0) (n .0)
 
 -- the ticks that q firings of an actor work: wcet times q
 abbrev pub workOf : Tick → Firing → Tick

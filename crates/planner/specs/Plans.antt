@@ -4,7 +4,7 @@ use mathlib.Core.Bool.{true, false}
 use mathlib.Core.List.{List}
 use Prim.Native.Nat.{ℕ}
 use lib.ListN.{length}
-use Rattle.terms.specs.Refusal.{NO-PLAN}
+use Rattle.terms.specs.Refusal.{NO-PLAN, refusalAt}
 use Rattle.terms.specs.declared.refusal.Place.the-variants.{Nowhere}
 use Rattle.terms.specs.declared.refusal.Refusal.{Refusal}
 use Rattle.tables.specs.declared.Table.{Table}
@@ -25,7 +25,7 @@ use Rattle.planner.specs.declared.Printing.the-variants.{Printed, Refuse
 
 -- Refusal 15 names no place.
 abbrev pub noPlan : Refusal
-noPlan = record { number = NO-PLAN; place = Nowhere }
+noPlan = refusalAt NO-PLAN Nowhere
 
 -- The text is read, and t is the table of its rows.
 abbrev pub Reads : List ℕ → Table → Type 0

@@ -33,7 +33,7 @@ use Rattle.change.proofs.Offsets.{found}
 use Rattle.planning.specs.declared.ModePlan.{ModePlan}
 use Rattle.planning.specs.declared.Outcome.{Outcome}
 use Rattle.planning.specs.Nothing.{noPart, noTiming, emptyPart}
-use Rattle.planning.specs.Plan.{Listed, ModeRefused, partOf, ModePlanned, IsPart, Planning, refused, planned}
+use Rattle.planning.specs.Plan.{Listed, ModeRefused, partFrom, ModePlanned, IsPart, Planning, refused, planned}
 use Rattle.planning.specs.Steps.{runningAt, runningsOf, AllReady, Between, ChangeOf, FoundParts, FoundChanges}
 use Rattle.planning.proofs.Told.{judged-refuses, scheduled-refuses}
 use Rattle.planning.proofs.Unique.{listed-or-not}
@@ -48,7 +48,7 @@ mode-decided m n proper = go (judgeOf m .verdict) refl
     timed e (Late a) f = inr (_, scheduled-refuses n (judge-judged m proper) e (schedule-scheduled m (judgeOf m) proper (judge-judged m proper) e) f)
     timed e OnTime f =
         inl (
-          partOf (judgeOf m) (scheduleOf m (judgeOf m)),
+          partFrom (judgeOf m) (scheduleOf m (judgeOf m)),
           record {
             judgement = judgeOf m;
             timetable = scheduleOf m (judgeOf m);

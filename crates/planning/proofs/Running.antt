@@ -36,7 +36,7 @@ use Rattle.change.specs.Work.{Fitting}
 use Rattle.change.specs.Running.{askedBy as asked, askedOf, Bearable, Ready}
 use Rattle.planning.specs.declared.ModePlan.{ModePlan}
 use Rattle.planning.specs.Nothing.{noPart}
-use Rattle.planning.specs.Plan.{partOf as planOf, Listed, ModePlanned, IsPart}
+use Rattle.planning.specs.Plan.{partFrom as planOf, Listed, ModePlanned, IsPart}
 use Rattle.planning.specs.Steps.{noRunning, idleRunning, runningsOf, AllReady, FoundParts, runningOf}
 use Rattle.planning.proofs.Told.{judged-sound, scheduled-times}
 use Rattle.planning.proofs.Bounds.{mode-small, part-small}

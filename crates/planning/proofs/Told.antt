@@ -4,7 +4,7 @@ use mathlib.Core.List.{List}
 use Prim.Native.Nat.{ℕ, _<_}
 use Rattle.units.specs.Limits.{ACTORS, PROCESSORS}
 use Rattle.units.specs.declared.Tick.{Tick}
-use Rattle.terms.specs.Refusal.{CYCLE, NO-ENDS, NO-BALANCE, OVERLOAD, LATE}
+use Rattle.terms.specs.Refusal.{CYCLE, NO-ENDS, NO-BALANCE, OVERLOAD, LATE, refusalAt}
 use Rattle.terms.specs.declared.refusal.Place.the-variants.{Nowhere, Mode as AtMode, Actor as AtActor, Processor as AtProcessor}
 use Rattle.terms.specs.declared.refusal.Refusal.{Refusal}
 use Rattle.terms.specs.Place.{numberOf}
@@ -20,7 +20,7 @@ use Rattle.schedule.specs.declared.Timing.the-variants.{Late as IsLate, OnTime}
 use Rattle.schedule.specs.declared.Timetable.{Timetable}
 use Rattle.schedule.specs.Starts.{Starts, Late}
 use Rattle.schedule.specs.Scheduled.{Times, Scheduled, late, on-time}
-use Rattle.planning.specs.Plan.{refusal, Balanced, ModeRefused, by-6, by-7, by-8, by-9, by-10}
+use Rattle.planning.specs.Plan.{Balanced, ModeRefused, by-6, by-7, by-8, by-9, by-10}
 
 -- a verdict that refuses, and a timing that does
 abbrev Refuses : Verdict → Type 0
@@ -32,11 +32,11 @@ Refuses IsSound = ⊥
 
 -- the refusal of the mode with number n by its verdict
 abbrev pub refusalBy : ℕ → Verdict → Refusal
-refusalBy n IsCyclic = refusal CYCLE (AtMode n)
-refusalBy n HasNoEnds = refusal NO-ENDS (AtMode n)
-refusalBy n IsUnbalanced = refusal NO-BALANCE (AtMode n)
-refusalBy n (IsOverloaded p) = refusal OVERLOAD (AtProcessor n (numberOf p))
-refusalBy n IsSound = refusal 0 Nowhere
+refusalBy n IsCyclic = refusalAt CYCLE (AtMode n)
+refusalBy n HasNoEnds = refusalAt NO-ENDS (AtMode n)
+refusalBy n IsUnbalanced = refusalAt NO-BALANCE (AtMode n)
+refusalBy n (IsOverloaded p) = refusalAt OVERLOAD (AtProcessor n (numberOf p))
+refusalBy n IsSound = refusalAt 0 Nowhere
 
 abbrev Delays : Timing → Type 0
 Delays (IsLate a) = Unit {0}
@@ -86,10 +86,10 @@ module _ {m : Mode} where
   module _ {j : Judgement} where
     -- a late actor refuses by its rule
     pub scheduled-refuses : {r : Timetable} {a : ℕ} (n : ℕ) → Judged m j → j .verdict ≡ IsSound → Scheduled m j r → r .timing ≡ IsLate a
-        → ModeRefused m n (refusal LATE (AtActor n (numberOf a)))
+        → ModeRefused m n (refusalAt LATE (AtActor n (numberOf a)))
     scheduled-refuses n q v (late {a} s p l) e =
         let (x, acyclic, numbers, bears) = judged-sound q v in
-        subst (λ (a : ℕ). ModeRefused m n (refusal LATE (AtActor n (numberOf a)))) (ap lateOf e)
+        subst (λ (a : ℕ). ModeRefused m n (refusalAt LATE (AtActor n (numberOf a)))) (ap lateOf e)
         (by-10 (numbers-balanced acyclic numbers) bears (subst (λ (ps : List Tick). Starts m ps s) (numbers .periods) p) l)
     scheduled-refuses n q v (on-time s p o t) e = absurd (subst Delays (sym e ∙ t .timing) tt)
 

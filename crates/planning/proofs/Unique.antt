@@ -15,7 +15,7 @@ use Rattle.units.specs.Limits.{MODES, ACTORS}
 use Rattle.units.specs.declared.Tick.{Tick}
 use Rattle.units.specs.Ticks.{tick}
 use Rattle.period.specs.Period.{periodOf}
-use Rattle.terms.specs.Refusal.{OVERLOAD, LATE}
+use Rattle.terms.specs.Refusal.{OVERLOAD, LATE, refusalAt}
 use Rattle.terms.specs.declared.refusal.Place.the-variants.{Actor as AtActor, Processor as AtProcessor}
 use Rattle.terms.specs.declared.refusal.Refusal.{Refusal}
 use Rattle.terms.specs.Place.{numberOf}
@@ -35,7 +35,7 @@ use Rattle.planning.specs.declared.Plan.{Plan}
 use Rattle.planning.specs.declared.Answer.the-variants.{Refused as IsRefused, Planned as IsPlanned}
 use Rattle.planning.specs.declared.Outcome.{Outcome}
 use Rattle.planning.specs.Nothing.{noPart, noTiming, emptyPlan}
-use Rattle.planning.specs.Plan.{changeAt, Listed, refusal, periodsOf, Balanced, ModeRefused, by-6, by-7, by-8, by-9, by-10, partOf, ModePlanned, IsPart, timesOf, Leads, IsChange, Planned, Planning, refused, planned}
+use Rattle.planning.specs.Plan.{changeAt, Listed, periodsOf, Balanced, ModeRefused, by-6, by-7, by-8, by-9, by-10, partFrom, ModePlanned, IsPart, timesOf, Leads, IsChange, Planned, Planning, refused, planned}
 use Rattle.planning.proofs.Told.{judged-sound, scheduled-times, numbers-balanced}
 
 module _ {m : Mode} where
@@ -79,7 +79,7 @@ module _ {m : Mode} where
   refusal-unique (by-9 p o) (by-7 k d) = absurd (d _ _ (p .ends))
   refusal-unique (by-9 p o) (by-8 k d u) = absurd (unbalanced-not u p)
   refusal-unique {n} (by-9 p o) (by-9 q w) =
-      ap (λ (i : ℕ). refusal OVERLOAD (AtProcessor n (numberOf i)))
+      ap (λ (i : ℕ). refusalAt OVERLOAD (AtProcessor n (numberOf i)))
       (le-antisymm (o .least _ (over-same q p _ (w .holds))) (w .least _ (over-same p q _ (o .holds))))
   refusal-unique (by-9 p o) (by-10 q f b l) = absurd (f _ (over-same p q _ (o .holds)))
   refusal-unique (by-10 p f b l) (by-6 c) = absurd (p .acyclic c)
@@ -87,14 +87,14 @@ module _ {m : Mode} where
   refusal-unique (by-10 p f b l) (by-8 k d u) = absurd (unbalanced-not u p)
   refusal-unique (by-10 p f b l) (by-9 q o) = absurd (f _ (over-same q p _ (o .holds)))
   refusal-unique {n} (by-10 p f b l) (by-10 q g c k) =
-      ap (λ (i : ℕ). refusal LATE (AtActor n (numberOf i)))
+      ap (λ (i : ℕ). refusalAt LATE (AtActor n (numberOf i)))
       (le-antisymm (l .least _ (late-same q p c b _ (k .holds))) (k .least _ (late-same p q b c _ (l .holds))))
 
   pub part-unique : {p q : ModePlan} → ModePlanned m p → ModePlanned m q → p ≡ q
   part-unique p q =
       let same = judged-unique m (q .judged) (p .judged) in
       p .part
-      ∙ ap₂ partOf (sym same) (scheduled-unique m _ (p .scheduled) (subst (λ (j : Judgement). Scheduled m j (q .timetable)) same (q .scheduled)))
+      ∙ ap₂ partFrom (sym same) (scheduled-unique m _ (p .scheduled) (subst (λ (j : Judgement). Scheduled m j (q .timetable)) same (q .scheduled)))
       ∙ sym (q .part)
 
   pub planned-refused : {p : ModePlan} {n : ℕ} {r : Refusal} → ModePlanned m p → ModeRefused m n r → ⊥

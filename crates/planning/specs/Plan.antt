@@ -8,8 +8,7 @@ use Rattle.units.specs.declared.Tick.{Tick}
 use Rattle.units.specs.Ticks.{tick}
 use Rattle.units.specs.Limits.{MODES, ITERATION-LIMIT}
 use Rattle.period.specs.Period.{periodOf}
-use Rattle.terms.specs.Refusal.{CYCLE, NO-ENDS, NO-BALANCE, OVERLOAD, LATE}
-use Rattle.terms.specs.declared.refusal.Place.{Place}
+use Rattle.terms.specs.Refusal.{CYCLE, NO-ENDS, NO-BALANCE, OVERLOAD, LATE, refusalAt}
 use Rattle.terms.specs.declared.refusal.Place.the-variants.{Mode as AtMode, Actor as AtActor, Processor as AtProcessor}
 use Rattle.terms.specs.declared.refusal.Refusal.{Refusal}
 use Rattle.terms.specs.Place.{numberOf}
@@ -46,9 +45,6 @@ changeAt w k l = getD (w .changes) (MODES * k + l) noTiming
 abbrev pub Listed : Table → ℕ → Type 0
 Listed t k = (k < MODES) × ((i : ℕ) × Active (modeAt t k) i)
 
-abbrev pub refusal : ℕ → Place → Refusal
-refusal n p = record { number = n; place = p }
-
 -- the periods of a mode's actors, by their cycle counts and the iteration; 0 for an actor that is not active
 abbrev pub periodsOf : Mode → (ℕ → ℕ) → Tick → List Tick
 periodsOf m x h = ofActors m (λ i. periodOf h (firingsOf m x i)) (tick 0)
@@ -64,17 +60,17 @@ pub record Balanced (m : Mode) (s t : ℕ) (x : ℕ → ℕ) (h : Tick) : Type 0
 -- The mode with number n is refused: by the first of 6 to 10 that applies, with the place that it names. 9 names the lowest processor above the load limit, and 10,
 -- with b the least starts of the mode's actors, the lowest actor that starts later than the sink.
 pub data ModeRefused (m : Mode) (n : ℕ) : Refusal → Type 0 where
-  by-6 : Cyclic m → ModeRefused m n (refusal CYCLE (AtMode n))
-  by-7 : (Cyclic m → ⊥) → NoEnds m → ModeRefused m n (refusal NO-ENDS (AtMode n))
-  by-8 : {s t : ℕ} → (Cyclic m → ⊥) → Ends m s t → Unbalanced m → ModeRefused m n (refusal NO-BALANCE (AtMode n))
+  by-6 : Cyclic m → ModeRefused m n (refusalAt CYCLE (AtMode n))
+  by-7 : (Cyclic m → ⊥) → NoEnds m → ModeRefused m n (refusalAt NO-ENDS (AtMode n))
+  by-8 : {s t : ℕ} → (Cyclic m → ⊥) → Ends m s t → Unbalanced m → ModeRefused m n (refusalAt NO-BALANCE (AtMode n))
   by-9 : {s t p : ℕ} {x : ℕ → ℕ} {h : Tick} → Balanced m s t x h → Least (Overloaded m x h) p
-      → ModeRefused m n (refusal OVERLOAD (AtProcessor n (numberOf p)))
+      → ModeRefused m n (refusalAt OVERLOAD (AtProcessor n (numberOf p)))
   by-10 : {s t a : ℕ} {x : ℕ → ℕ} {h : Tick} {b : ℕ → Tick} → Balanced m s t x h → ((p : ℕ) → Overloaded m x h p → ⊥) → Starts m (periodsOf m x h) b
-      → Least (Late m b t) a → ModeRefused m n (refusal LATE (AtActor n (numberOf a)))
+      → Least (Late m b t) a → ModeRefused m n (refusalAt LATE (AtActor n (numberOf a)))
 
 -- the numbers of a mode that is judged and scheduled
-abbrev pub partOf : Judgement → Timetable → ModePlan
-partOf j s =
+abbrev pub partFrom : Judgement → Timetable → ModePlan
+partFrom j s =
     record {
       source = j .source;
       sink = j .sink;
@@ -95,7 +91,7 @@ pub record ModePlanned (m : Mode) (p : ModePlan) : Type 0 where
   pub sound : judgement .verdict ≡ Sound
   pub scheduled : Scheduled m judgement timetable
   pub on-time : timetable .timing ≡ OnTime
-  pub part : p ≡ partOf judgement timetable
+  pub part : p ≡ partFrom judgement timetable
 
 -- what is planned of mode k of a table: nothing where it is not listed
 pub record IsPart (t : Table) (k : ℕ) (p : ModePlan) : Type 0 where

@@ -24,12 +24,13 @@ use units::limits::ACTORS;
 use units::limits::CHANNELS;
 use units::limits::MODES;
 ghost use mathlib.Core.Path.{_≡_};
+ghost use Rattle.terms.specs.Refusal.{refusalAt};
 ghost use Rattle.tables.specs.Proper.{ProperMode, ProperTable};
 ghost use Rattle.graph.specs.declared.Verdict.the-variants.{Sound};
 ghost use Rattle.graph.specs.Judged.{Judged};
 ghost use Rattle.planning.specs.declared.Answer.the-variants.{Refused};
 ghost use Rattle.planning.specs.Nothing.{emptyPart};
-ghost use Rattle.planning.specs.Plan.{refusal, partOf};
+ghost use Rattle.planning.specs.Plan.{partFrom};
 ghost use Rattle.planning.specs.Steps.{Comes, AnyComes, AllCome};
 
 // What comes of a mode: its answer, and its part.
@@ -63,7 +64,7 @@ pub(crate) fn nothing() -> ModePlan
 
 // The refusal with this number and this place.
 fn refused(number: u64, place: Place) -> Piece
-    ensures { λ r. ⌜ r ≡ record { answer = Refused (refusal number place); part = emptyPart } ⌝ }
+    ensures { λ r. ⌜ r ≡ record { answer = Refused (refusalAt number place); part = emptyPart } ⌝ }
 {
     let refusal = Refusal { number, place };
     Piece {
@@ -74,7 +75,7 @@ fn refused(number: u64, place: Place) -> Piece
 
 // The numbers of a mode that is judged and scheduled.
 fn part_of(judged: Judgement, times: Timetable) -> ModePlan
-    ensures { λ r. ⌜ r ≡ partOf judged times ⌝ }
+    ensures { λ r. ⌜ r ≡ partFrom judged times ⌝ }
 {
     let iteration = judged.iteration;
     let firings = judged.firings;

@@ -13,7 +13,7 @@ use Rattle.tables.specs.Proper.{ProperTable}
 use Rattle.reader.specs.declared.Answer.the-variants.{Read, Refused}
 use Rattle.reader.specs.declared.Reading.{Reading}
 use Rattle.reader.specs.Rows.{Row, contents, FirstOf, by-3, by-4, by-5, NoneOf, RowRefused, Passes}
-use Rattle.reader.specs.Told.{Outcome, rows, refused, FirstRow, Refused1, FrontRefused, by-1, by-2, by-row, After, done, stopped, next, Of, wrong-length, right-length, tableOf, readingOf, Told}
+use Rattle.reader.specs.Told.{Outcome, rows, refused, FirstRow, Refused1, FrontRefused, by-1, by-2, by-row, After, done, stopped, passed, Of, wrong-length, right-length, tableOf, readingOf, Told}
 use Rattle.reader.specs.Writing.{rowsOf, written}
 use Rattle.csv.proofs.Grammar.{first-one}
 use Rattle.reader.proofs.Lookup.{start}
@@ -97,13 +97,13 @@ front-refused-one {rs} {k = k} (by-row f x) (by-row g y) = first-of-one x (subst
 pub after-one : {rs : List Row} {t : List ℕ} {o u : Outcome} → After rs t o → After rs t u → o ≡ u
 after-one done done = refl
 after-one done (stopped h x) = absurd (omega arith)
-after-one done (next f q a) = absurd (no-first-row f)
+after-one done (passed f q a) = absurd (no-first-row f)
 after-one (stopped h x) done = absurd (omega arith)
 after-one (stopped h x) (stopped l y) = rw (front-refused-one x y) refl
-after-one (stopped h x) (next f q a) = absurd (front-passes f q x)
-after-one (next f q a) done = absurd (no-first-row f)
-after-one (next f q a) (stopped h x) = absurd (front-passes f q x)
-after-one {rs} {u = u} (next {rest = rest} f q a) (next {r = s} g p b) =
+after-one (stopped h x) (passed f q a) = absurd (front-passes f q x)
+after-one (passed f q a) done = absurd (no-first-row f)
+after-one (passed f q a) (stopped h x) = absurd (front-passes f q x)
+after-one {rs} {u = u} (passed {rest = rest} f q a) (passed {r = s} g p b) =
     let (row, tail) = first-row-one g f in
     after-one a (subst (λ (x : Row). After (x ∷ rs) rest u) row (subst (λ (x : List ℕ). After (s ∷ rs) x u) tail b))
 

@@ -15,7 +15,7 @@ use Rattle.tables.specs.declared.Actor.{Actor}
 use Rattle.tables.specs.declared.Mode.{Mode}
 use Rattle.tables.specs.Shape.{actorAt, modeAt}
 use Rattle.reader.specs.declared.line.Line.{Line}
-use Rattle.reader.specs.Rows.{Row, ActorRow, ChannelRow, actor, channel, InRange, ActorInRange, ChannelInRange, Lists, Listed, Unfit, Refused3, Refused4, Refused5, by-3, by-4, by-5}
+use Rattle.reader.specs.Rows.{Row, ActorRow, ChannelRow, actor, channel, InRange, ActorInRange, ChannelInRange, Lists, ListedActor, Unfit, Refused3, Refused4, Refused5, by-3, by-4, by-5}
 use Rattle.reader.specs.Told.{tableOf}
 use Rattle.reader.specs.Lines.{lineOf}
 use Rattle.reader.specs.Checks.{Number, refused as first, passes, Checked}
@@ -46,16 +46,16 @@ module _ {rs : List Row} (p : Passed rs) where
         is e l q = rw (← q) (home-is p l)
 
   -- the rates of an actor that is listed
-  pub unfit : {m a : ℕ} (xs : List ℕ) → Listed rs m a → Unfit rs m a xs ↔ Misfit (modeSoFar rs m) a xs
+  pub unfit : {m a : ℕ} (xs : List ℕ) → ListedActor rs m a → Unfit rs m a xs ↔ Misfit (modeSoFar rs m) a xs
   unfit {m} {a} xs l = ((λ (k, bad). to k bad (ℕ-discrete (length xs) (k .by .is .phases))), λ bad. (l, from bad (ℕ-discrete (length xs) (l .by .is .phases))))
     where
-      is : (k : Listed rs m a) → actorAt (modeSoFar rs m) (placeOf a) .phases ≡ k .by .is .phases
+      is : (k : ListedActor rs m a) → actorAt (modeSoFar rs m) (placeOf a) .phases ≡ k .by .is .phases
       is k = ap (λ (b : Actor). b .phases) (listed-is p k)
 
-      zeros : (k : Listed rs m a) → length xs ≡ k .by .is .phases → Every (λ x. x ≡ 0) (padded PHASES 0 xs) ↔ Every (λ x. x ≡ 0) xs
+      zeros : (k : ListedActor rs m a) → length xs ≡ k .by .is .phases → Every (λ x. x ≡ 0) (padded PHASES 0 xs) ↔ Every (λ x. x ≡ 0) xs
       zeros k e = every-padded PHASES 0 (λ x. x ≡ 0) refl xs (omega (arith, lists-range p (k .lists) .phases))
 
-      to : (k : Listed rs m a) → (length xs ≡ k .by .is .phases → ⊥) ⊎ Every (λ x. x ≡ 0) xs → Dec (length xs ≡ k .by .is .phases) → Misfit (modeSoFar rs m) a xs
+      to : (k : ListedActor rs m a) → (length xs ≡ k .by .is .phases → ⊥) ⊎ Every (λ x. x ≡ 0) xs → Dec (length xs ≡ k .by .is .phases) → Misfit (modeSoFar rs m) a xs
       to k bad (no n) = inl (λ e. n (e ∙ is k))
       to k bad (yes e) = ⊎-elim (λ n. absurd (n e)) (λ z. inr (zeros k e .1 z)) bad
 
@@ -79,7 +79,7 @@ module _ {rs : List Row} (p : Passed rs) where
         )
 
     -- where refusal 3 does not apply both ends are listed
-    pub ends-listed : (Refused3 rs (channel r) → ⊥) → Listed rs (r .mode) (r .from) × Listed rs (r .mode) (r .to)
+    pub ends-listed : (Refused3 rs (channel r) → ⊥) → ListedActor rs (r .mode) (r .from) × ListedActor rs (r .mode) (r .to)
     ends-listed n = (
       listed-stable p (i .mode) (i .from) (λ h. n (inl h)),
       listed-stable p (i .mode) (i .to) (λ h. n (inr (inl h))),

@@ -16,7 +16,7 @@ use Rattle.csv.specs.Decimal.{decimal, spaced}
 use Rattle.csv.specs.Writing.{joined}
 use Rattle.units.specs.Limits.{MOST-BYTES, MODES, ACTORS, CHANNELS, PHASES, PROCESSORS, MOST-WCET, MOST-RATE}
 use Rattle.units.specs.Ticks.{tick}
-use Rattle.reader.specs.Rows.{Row, ActorRow, ChannelRow, actor, channel, word, contents, Rates, InRange, Lists, Listed, channels, Refused3, Refused4, Refused5, Unfit}
+use Rattle.reader.specs.Rows.{Row, ActorRow, ChannelRow, actor, channel, word, contents, Rates, InRange, Lists, ListedActor, channels, Refused3, Refused4, Refused5, Unfit}
 use Rattle.reader.specs.Told.{rows, Of}
 use Rattle.reader.specs.Writing.{textOf}
 use Rattle.csv.proofs.Decimals.{decimal-more, decimal-one}
@@ -239,13 +239,13 @@ range-true (channel r) h =
 is-decides : (m a : ℕ) (e : ActorRow) → Decides ((e .mode ≡ m) × (e .actor ≡ a)) (isb m a e)
 is-decides m a e = decides-and (eqb (e .mode) m) (eqb (e .actor) a) (decides-eqb (e .mode) m Iff·rfl) (decides-eqb (e .actor) a Iff·rfl)
 
-listed-true : (rs : List Row) (m a : ℕ) → T (someb (isb m a) rs) → Listed rs m a
+listed-true : (rs : List Row) (m a : ℕ) → T (someb (isb m a) rs) → ListedActor rs m a
 listed-true rs m a h =
     let (e, l, t) = some-true (isb m a) rs h in
     let (mode, number) = is-decides m a e .0 t in
     record { by = e; lists = l; mode = mode; actor = number }
 
-each-listed : (rs : List Row) (m a : ℕ) (g : ActorRow → Bool) → T (eachb (isb m a) g rs) → (l : Listed rs m a) → T (g (l .by))
+each-listed : (rs : List Row) (m a : ℕ) (g : ActorRow → Bool) → T (eachb (isb m a) g rs) → (l : ListedActor rs m a) → T (g (l .by))
 each-listed rs m a g h l = each-true (isb m a) g rs h (l .lists) (is-decides m a (l .by) .1 (l .mode, l .actor))
 
 fit-true : (rs : List Row) (m a : ℕ) (xs : List ℕ) → T (fitb rs m a xs) → Unfit rs m a xs → ⊥

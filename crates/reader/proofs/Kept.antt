@@ -15,7 +15,7 @@ use Rattle.tables.specs.declared.Mode.{Mode}
 use Rattle.tables.specs.Shape.{actorAt, modeAt, withActor, withChannel}
 use Rattle.tables.specs.Proper.{ProperRates, ProperMode, ProperTable}
 use Rattle.tables.specs.Grown.{empty-proper, actor-mode, channel-mode}
-use Rattle.reader.specs.Rows.{Row, ActorRow, ChannelRow, actor, channel, Rates, ActorInRange, ChannelInRange, Lists, Listed, channels, Unfit, Passes}
+use Rattle.reader.specs.Rows.{Row, ActorRow, ChannelRow, actor, channel, Rates, ActorInRange, ChannelInRange, Lists, ListedActor, channels, Unfit, Passes}
 use Rattle.reader.specs.Told.{channelOf, tableOf}
 use Rattle.reader.proofs.Lookup.{Passed, start, then, holds, lists-range, stable, mode-at, empty-mode, listed-is, listed-stable, place-has, place-is, one-home}
 
@@ -59,7 +59,7 @@ module _ {rs : List Row} (p : Passed rs) where
     M = modeAt (tableOf rs) (placeOf (r .mode))
 
     -- the rates of an end that is listed
-    end-rates : (a : ℕ) (xs : List ℕ) → Rates xs → Listed rs (r .mode) a → (Unfit rs (r .mode) a xs → ⊥) → ProperRates (actorAt M (placeOf a) .phases) (padded PHASES 0 xs)
+    end-rates : (a : ℕ) (xs : List ℕ) → Rates xs → ListedActor rs (r .mode) a → (Unfit rs (r .mode) a xs → ⊥) → ProperRates (actorAt M (placeOf a) .phases) (padded PHASES 0 xs)
     end-rates a xs h l fit =
         let long : length xs ≡ l .by .is .phases = stable (λ n. fit (l, inl n)) in
         subst (λ (k : ℕ). ProperRates k (padded PHASES 0 xs)) (long ∙ sym (ap (λ (b : Actor). b .phases) (listed-is p l)))

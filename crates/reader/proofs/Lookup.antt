@@ -17,7 +17,7 @@ use Rattle.terms.specs.Place.{placeOf, numberOf}
 use Rattle.tables.specs.declared.Mode.{Mode}
 use Rattle.tables.specs.declared.Table.{Table}
 use Rattle.tables.specs.Shape.{noActor, noMode, emptyChannel, emptyMode, emptyTable, actorAt, modeAt, withActor, withChannel, withMode}
-use Rattle.reader.specs.Rows.{Row, ActorRow, ChannelRow, actor, channel, ActorInRange, InRange, Lists, Listed, channels, Passes}
+use Rattle.reader.specs.Rows.{Row, ActorRow, ChannelRow, actor, channel, ActorInRange, InRange, Lists, ListedActor, channels, Passes}
 use Rattle.reader.specs.Told.{channelOf, listing, tableOf}
 
 -- rows that were read, the latest first: each is in range, and none of refusals 3 to 5 applies to it
@@ -34,7 +34,7 @@ pub record Sized (t : Table) : Type 0 where
 -- what a table holds of some rows
 pub record Holds (rs : List Row) (t : Table) : Type 0 where
   pub sized : Sized t
-  pub has : (m a : ℕ) → Between 1 MODES m → Between 1 ACTORS a → Has (modeAt t (placeOf m) .active) (placeOf a) ↔ Listed rs m a
+  pub has : (m a : ℕ) → Between 1 MODES m → Between 1 ACTORS a → Has (modeAt t (placeOf m) .active) (placeOf a) ↔ ListedActor rs m a
   pub is : (e : ActorRow) → ActorInRange e → Lists rs e → actorAt (modeAt t (placeOf (e .mode))) (placeOf (e .actor)) ≡ e .is
   pub count : (m : ℕ) → Between 1 MODES m → modeAt t (placeOf m) .count ≡ channels rs m
 
@@ -53,21 +53,21 @@ stable {a} {b} n = go (ℕ-discrete a b)
     go (no d) = absurd (n d)
 
 -- what one row more lists
-pub listed-more : {r : Row} {rs : List Row} {m a : ℕ} → Listed rs m a → Listed (r ∷ rs) m a
+pub listed-more : {r : Row} {rs : List Row} {m a : ℕ} → ListedActor rs m a → ListedActor (r ∷ rs) m a
 listed-more l = record { by = l .by; lists = List·Memᴰ·tail (l .lists); mode = l .mode; actor = l .actor }
 
 pub lists-actor : {r e : ActorRow} {rs : List Row} → Lists (actor r ∷ rs) e → (e ≡ r) ⊎ Lists rs e
 lists-actor (List·Memᴰ·head q) = inl (cc)
 lists-actor (List·Memᴰ·tail l) = inr l
 
-listed-actor : {r : ActorRow} {rs : List Row} {m a : ℕ} → Listed (actor r ∷ rs) m a → ((r .mode ≡ m) × (r .actor ≡ a)) ⊎ Listed rs m a
+listed-actor : {r : ActorRow} {rs : List Row} {m a : ℕ} → ListedActor (actor r ∷ rs) m a → ((r .mode ≡ m) × (r .actor ≡ a)) ⊎ ListedActor rs m a
 listed-actor l = ⊎-elim (λ f. inl (cc, cc)) (λ k. inr (record { by = l .by; lists = k; mode = l .mode; actor = l .actor })) (lists-actor (l .lists))
 
 pub lists-channel : {r : ChannelRow} {e : ActorRow} {rs : List Row} → Lists (channel r ∷ rs) e → Lists rs e
 lists-channel (List·Memᴰ·head q) = let z : _≡_ {A = ℕ} 0 1 = cc in absurd (omega arith)
 lists-channel (List·Memᴰ·tail l) = l
 
-listed-channel : {r : ChannelRow} {rs : List Row} {m a : ℕ} → Listed (channel r ∷ rs) m a → Listed rs m a
+listed-channel : {r : ChannelRow} {rs : List Row} {m a : ℕ} → ListedActor (channel r ∷ rs) m a → ListedActor rs m a
 listed-channel l = record { by = l .by; lists = lists-channel (l .lists); mode = l .mode; actor = l .actor }
 
 -- a table with a mode at place i: what it has at place j
@@ -104,17 +104,17 @@ module _ {rs : List Row} {t : Table} (g : Holds rs t) (r : ActorRow) (hm : Betwe
   abbrev actor-at : (P : Mode → Type 0) (j : ℕ) → (j ≡ placeOf (r .mode) → P with-actor) → ((j ≡ placeOf (r .mode) → ⊥) → P (modeAt t j)) → P (modeAt (listing (actor r) t) j)
   actor-at = mode-at t (g .sized .modes) (placeOf (r .mode)) with-actor (omega arith)
 
-  actor-has : (m a : ℕ) → Between 1 MODES m → Between 1 ACTORS a → Has (modeAt (listing (actor r) t) (placeOf m) .active) (placeOf a) ↔ Listed (actor r ∷ rs) m a
+  actor-has : (m a : ℕ) → Between 1 MODES m → Between 1 ACTORS a → Has (modeAt (listing (actor r) t) (placeOf m) .active) (placeOf a) ↔ ListedActor (actor r ∷ rs) m a
   actor-has m a bm ba =
       let adds = has-adding (old .active) (placeOf (r .actor)) (placeOf a) in
-      actor-at (λ (N : Mode). Has (N .active) (placeOf a) ↔ Listed (actor r ∷ rs) m a) (placeOf m)
+      actor-at (λ (N : Mode). Has (N .active) (placeOf a) ↔ ListedActor (actor r ∷ rs) m a) (placeOf m)
       (λ e. (
         λ h. ⊎-elim (λ f. record { by = r; lists = List·Memᴰ·head refl; mode = omega arith; actor = omega arith }) (λ k. listed-more (g .has m a bm ba .0 (rw e k))) (adds .0 h),
         λ l. adds .1 (⊎-elim (λ f. inl (cc)) (λ k. inr (rw e at (g .has m a bm ba .1 k))) (listed-actor l)),
       ))
       (λ n. (λ h. listed-more (g .has m a bm ba .0 h), λ l. g .has m a bm ba .1 (⊎-elim (λ f. absurd (n (cc))) (λ k. k) (listed-actor l))))
 
-  actor-is : (Listed rs (r .mode) (r .actor) → ⊥) → (e : ActorRow) → ActorInRange e → Lists (actor r ∷ rs) e
+  actor-is : (ListedActor rs (r .mode) (r .actor) → ⊥) → (e : ActorRow) → ActorInRange e → Lists (actor r ∷ rs) e
       → actorAt (modeAt (listing (actor r) t) (placeOf (e .mode))) (placeOf (e .actor)) ≡ e .is
   actor-is once e i l = ⊎-elim latest earlier (lists-actor l)
     where
@@ -130,7 +130,7 @@ module _ {rs : List Row} {t : Table} (g : Holds rs t) (r : ActorRow) (hm : Betwe
           getD-set-other (old .actors) (placeOf (r .actor)) (placeOf (e .actor)) (r .is) noActor other ∙ (rw f at (g .is e i k)))
           (λ n. g .is e i k)
 
-  actor-holds : (Listed rs (r .mode) (r .actor) → ⊥) → Holds (actor r ∷ rs) (listing (actor r) t)
+  actor-holds : (ListedActor rs (r .mode) (r .actor) → ⊥) → Holds (actor r ∷ rs) (listing (actor r) t)
   unfolding channels
   actor-holds once =
       record {
@@ -159,7 +159,7 @@ module _ {rs : List Row} {t : Table} (g : Holds rs t) (r : ChannelRow) (hm : Bet
         sized = sized-with t (g .sized) (placeOf (r .mode)) with-channel (omega arith) (g .sized .actors (placeOf (r .mode)) (omega arith))
             (length-set (was .channels) (was .count) (channelOf r) ∙ g .sized .channels (placeOf (r .mode)) (omega arith));
         has = λ m a bm ba.
-            channel-at (λ (N : Mode). Has (N .active) (placeOf a) ↔ Listed (channel r ∷ rs) m a) (placeOf m)
+            channel-at (λ (N : Mode). Has (N .active) (placeOf a) ↔ ListedActor (channel r ∷ rs) m a) (placeOf m)
             (λ e. rw (← e) (λ h. listed-more (g .has m a bm ba .0 h), λ l. g .has m a bm ba .1 (listed-channel l)))
             (λ n. (λ h. listed-more (g .has m a bm ba .0 h), λ l. g .has m a bm ba .1 (listed-channel l)));
         is = λ e i l.
@@ -199,11 +199,11 @@ holds (then {r = actor r} h q p) = actor-holds (holds p) r (h .mode) (h .actor) 
 holds (then {r = channel r} h q p) = channel-holds (holds p) r (h .mode)
 
 -- what is listed of an actor stands at its place
-pub listed-is : {rs : List Row} {m a : ℕ} → Passed rs → (l : Listed rs m a) → actorAt (modeAt (tableOf rs) (placeOf m)) (placeOf a) ≡ l .by .is
+pub listed-is : {rs : List Row} {m a : ℕ} → Passed rs → (l : ListedActor rs m a) → actorAt (modeAt (tableOf rs) (placeOf m)) (placeOf a) ≡ l .by .is
 listed-is p l = rw (← l .mode, ← l .actor) (holds p .is (l .by) (lists-range p (l .lists)) (l .lists))
 
 -- an actor that is not missing is listed
-pub listed-stable : {rs : List Row} {m a : ℕ} → Passed rs → Between 1 MODES m → Between 1 ACTORS a → ((Listed rs m a → ⊥) → ⊥) → Listed rs m a
+pub listed-stable : {rs : List Row} {m a : ℕ} → Passed rs → Between 1 MODES m → Between 1 ACTORS a → ((ListedActor rs m a → ⊥) → ⊥) → ListedActor rs m a
 listed-stable {rs} {m} {a} p hm ha n =
     let has = holds p .has m a hm ha in
     ⊎-elim (λ h. has .0 h) (λ z. absurd (n (λ l. omega (arith, has .1 l)))) (has-or-not (modeAt (tableOf rs) (placeOf m) .active) (placeOf a))
@@ -213,10 +213,10 @@ place-number n = omega arith
 
 -- what the table holds, by places
 module _ {rs : List Row} (p : Passed rs) (m : ℕ) where
-  pub place-has : m < MODES → (i : ℕ) → i < ACTORS → Has (modeAt (tableOf rs) m .active) i ↔ Listed rs (numberOf m) (numberOf i)
+  pub place-has : m < MODES → (i : ℕ) → i < ACTORS → Has (modeAt (tableOf rs) m .active) i ↔ ListedActor rs (numberOf m) (numberOf i)
   place-has hm i hi = rw (place-number m, place-number i) at (holds p .has (numberOf m) (numberOf i) (omega arith, omega arith) (omega arith, omega arith))
 
-  pub place-is : (i : ℕ) (l : Listed rs (numberOf m) (numberOf i)) → actorAt (modeAt (tableOf rs) m) i ≡ l .by .is
+  pub place-is : (i : ℕ) (l : ListedActor rs (numberOf m) (numberOf i)) → actorAt (modeAt (tableOf rs) m) i ≡ l .by .is
   place-is i l = rw (place-number m, place-number i) at (listed-is p l)
 
   pub place-count : m < MODES → modeAt (tableOf rs) m .count ≡ channels rs (numberOf m)

@@ -18,7 +18,7 @@ use Rattle.tables.specs.Shape.{noMode, modeAt, emptyTable, withMode, withActor,
 use Rattle.reader.specs.declared.line.Kind.the-variants.{Actor}
 use Rattle.reader.specs.declared.line.Line.{Line}
 use Rattle.reader.specs.Rows.{Row, actor, channel, InRange, by-3, by-4, by-5, Passes, Refused3, Refused4, Refused5}
-use Rattle.reader.specs.Told.{Outcome, rows, refused, FirstRow, FrontRefused, by-1, by-2, by-row, After, done, stopped, next, tableOf}
+use Rattle.reader.specs.Told.{Outcome, rows, refused, FirstRow, FrontRefused, by-1, by-2, by-row, After, done, stopped, passed, tableOf}
 use Rattle.reader.specs.Lines.{lineOf, LineAt, no-record, no-row, row, channelIn}
 use Rattle.reader.specs.Checks.{Number, refused as first, passes}
 use Rattle.reader.proofs.Lookup.{Passed, start, then, holds, mode-same}
@@ -138,7 +138,7 @@ module _ {text : List ℕ} {table : Table} {homes : List ℕ} {mode : Mode} {at 
           homes-is = e;
           count-is = omega (arith, g .count-is);
           few = omega (arith, g .few, further);
-          read = λ o a. g .read o (next f q (subst (λ (u : List ℕ). After (r ∷ g .earlier) u o) (sym (rest-is text at (omega arith) (f .stands))) a));
+          read = λ o a. g .read o (passed f q (subst (λ (u : List ℕ). After (r ∷ g .earlier) u o) (sym (rest-is text at (omega arith) (f .stands))) a));
         }
 
     -- the table with another mode in the place of the one that is kept

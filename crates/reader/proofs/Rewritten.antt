@@ -23,7 +23,7 @@ use Rattle.tables.specs.declared.Mode.{Mode}
 use Rattle.tables.specs.declared.Table.{Table}
 use Rattle.tables.specs.Shape.{noActor, noChannel, noMode, emptyChannel, emptyMode, actorAt, channelAt, modeAt, withActor, withChannel, withMode}
 use Rattle.tables.specs.Proper.{ProperRates, ProperChannel, ProperMode, ProperTable}
-use Rattle.reader.specs.Rows.{Row, ActorRow, actor, channel, Rates, ActorInRange, ChannelInRange, InRange, Lists, Listed, Unfit, Passes}
+use Rattle.reader.specs.Rows.{Row, ActorRow, actor, channel, Rates, ActorInRange, ChannelInRange, InRange, Lists, ListedActor, Unfit, Passes}
 use Rattle.reader.specs.Told.{listing, tableOf}
 use Rattle.reader.specs.Writing.{actorRow, channelRow, actorRows, channelRows, modeRows, rowsOf}
 use Rattle.reader.proofs.Lookup.{Passed, start, then, holds, lists-range, mode-same, mode-other, empty-mode, place-number, place-has, place-is, place-count}
@@ -198,7 +198,7 @@ module _ (t : Table) (g : ProperTable t) (m : ℕ) (hm : m < MODES) where
         let n = placeOf (e .mode) in
         let r = lists-range (s .passed) l in
         let hn : n < MODES = omega (arith, r .mode) in
-        let d : Listed rs (numberOf n) (numberOf i) = record { by = e; lists = l; mode = omega (arith, r .mode); actor = q } in
+        let d : ListedActor rs (numberOf n) (numberOf i) = record { by = e; lists = l; mode = omega (arith, r .mode); actor = q } in
         let k : Has (modeAt (tableOf rs) n .active) i = place-has (s .passed) n hn i hi .1 d in
         let b : modeAt (tableOf rs) n ≡ modeAt t n = s .before n (listed-before n hn k) in
         sym (ap (λ (a : Actor). a .processor) (place-is (s .passed) n i d))
@@ -231,7 +231,7 @@ module _ (t : Table) (g : ProperTable t) (m : ℕ) (hm : m < MODES) where
     pC = gM .channel k hk
 
     -- the ends of a channel are listed, and its rates fit their phases
-    end-listed : (i : ℕ) → i < ACTORS → Has (M .active) i → Listed rs (numberOf m) (numberOf i)
+    end-listed : (i : ℕ) → i < ACTORS → Has (M .active) i → ListedActor rs (numberOf m) (numberOf i)
     end-listed i hi h = place-has (s .passed) m hm i hi .0 (s .now .has i .1 (hi, h))
 
     end-fits : (i : ℕ) (xs : List ℕ) → i < ACTORS → Has (M .active) i → ProperRates (actorAt M i .phases) xs

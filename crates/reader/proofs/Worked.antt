@@ -16,8 +16,8 @@ use Rattle.csv.specs.Writing.{joined}
 use Rattle.units.specs.Limits.{MOST-BYTES, FIELDS}
 use Rattle.units.specs.Ticks.{tick}
 use Rattle.terms.specs.Text.{bytes}
-use Rattle.reader.specs.Rows.{Row, ActorRow, actor, channel, contents, Listed, Passes, channels, RowRefused, by-3, by-4, by-5}
-use Rattle.reader.specs.Told.{Outcome, rows, refused, FirstRow, FrontRefused, by-1, by-2, by-row, done, stopped, next, Of, wrong-length, right-length}
+use Rattle.reader.specs.Rows.{Row, ActorRow, actor, channel, contents, ListedActor, Passes, channels, RowRefused, by-3, by-4, by-5}
+use Rattle.reader.specs.Told.{Outcome, rows, refused, FirstRow, FrontRefused, by-1, by-2, by-row, done, stopped, passed, Of, wrong-length, right-length}
 use Rattle.reader.specs.Writing.{lineText, textOf}
 use Rattle.csv.proofs.Decimals.{decimal-writes, zero-alone}
 use Rattle.csv.proofs.Grammar.{first-one}
@@ -156,10 +156,10 @@ told-so =
     let one : Plain (bytes "1") = (refl, tt) in
     let broken = bytes "act\r\nor" in
     let inside : Inside broken broken = byte tt (byte tt (byte tt (byte tt (byte tt (byte tt (byte tt nothing)))))) in
-    let listed : Listed (c ∷ b ∷ []) 1 1 = record { by = anActorRow 1 1 2 1 1; lists = List·Memᴰ·tail (List·Memᴰ·head refl); mode = refl; actor = refl } in
+    let listed : ListedActor (c ∷ b ∷ []) 1 1 = record { by = anActorRow 1 1 2 1 1; lists = List·Memᴰ·tail (List·Memᴰ·head refl); mode = refl; actor = refl } in
     wrong-length (inl refl)
-    & right-length (lit< tt) (lit≤ tt) (next (one-row false a tt over) (passes [] a tt tt tt) done)
-    & right-length (lit< tt) (lit≤ tt) (next (one-row true a tt crlf) (passes [] a tt tt tt) done)
+    & right-length (lit< tt) (lit≤ tt) (passed (one-row false a tt over) (passes [] a tt tt tt) done)
+    & right-length (lit< tt) (lit≤ tt) (passed (one-row true a tt crlf) (passes [] a tt tt tt) done)
     & reads-rows (bytes "actor,1,1,1,7,1\r\nactor,2,1,1,8,1\r\n") tt (lit< tt) (lit≤ tt)
     & refused-at [] (bytes "\"act\r\nor\",1,1,1,7,1\r\nx,1,1,1,1,1\r\n") tt tt tt
     (contents-at {rest = bytes "x,1,1,1,1,1\r\n"}

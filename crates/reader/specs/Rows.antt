@@ -74,7 +74,7 @@ abbrev pub Lists : List Row → ActorRow → Type 0
 Lists rows e = List·Memᴰ (actor e) rows
 
 -- one of these rows lists actor a in mode m
-pub record Listed (rows : List Row) (m a : ℕ) : Type 0 where
+pub record ListedActor (rows : List Row) (m a : ℕ) : Type 0 where
   pub by : ActorRow
   pub lists : Lists rows by
   pub mode : by .mode ≡ m
@@ -88,9 +88,9 @@ channels (channel r ∷ rows) m = cond (eqb (r .mode) m) (channels rows m + 1) (
 
 -- Refusal 3: an actor listed twice in a mode; a channel end not yet listed in that mode; one channel too many.
 abbrev pub Refused3 : List Row → Row → Type 0
-Refused3 earlier (actor r) = Listed earlier (r .mode) (r .actor)
+Refused3 earlier (actor r) = ListedActor earlier (r .mode) (r .actor)
 Refused3 earlier (channel r) =
-    (Listed earlier (r .mode) (r .from) → ⊥) ⊎ ((Listed earlier (r .mode) (r .to) → ⊥) ⊎ (CHANNELS ≤ channels earlier (r .mode)))
+    (ListedActor earlier (r .mode) (r .from) → ⊥) ⊎ ((ListedActor earlier (r .mode) (r .to) → ⊥) ⊎ (CHANNELS ≤ channels earlier (r .mode)))
 
 -- Refusal 4: an earlier row, of any mode, has this actor on another processor.
 abbrev pub Refused4 : List Row → Row → Type 0
@@ -99,7 +99,7 @@ Refused4 earlier (channel r) = ⊥
 
 -- a list of rates that is not as long as its actor's phases, or all zero
 abbrev pub Unfit : List Row → ℕ → ℕ → List ℕ → Type 0
-Unfit earlier m a xs = (l : Listed earlier m a) × ((length xs ≡ l .by .is .phases → ⊥) ⊎ Every (λ x. x ≡ 0) xs)
+Unfit earlier m a xs = (l : ListedActor earlier m a) × ((length xs ≡ l .by .is .phases → ⊥) ⊎ Every (λ x. x ≡ 0) xs)
 
 -- Refusal 5: either list of rates is so.
 abbrev pub Refused5 : List Row → Row → Type 0

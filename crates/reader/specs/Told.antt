@@ -51,7 +51,7 @@ pub data FrontRefused (earlier : List Row) (t : List ℕ) : ℕ → Type 0 where
 pub data After : List Row → List ℕ → Outcome → Type 0 where
   done : {earlier : List Row} → After earlier [] (rows earlier)
   stopped : {earlier : List Row} {t : List ℕ} {n : ℕ} → 0 < length t → FrontRefused earlier t n → After earlier t (refused n (suc (length earlier)))
-  next : {earlier : List Row} {t rest : List ℕ} {r : Row} {o : Outcome} → FirstRow t r rest → Passes earlier r → After (r ∷ earlier) rest o → After earlier t o
+  passed : {earlier : List Row} {t rest : List ℕ} {r : Row} {o : Outcome} → FirstRow t r rest → Passes earlier r → After (r ∷ earlier) rest o → After earlier t o
 
 -- of a whole text: its length first
 pub data Of : List ℕ → Outcome → Type 0 where

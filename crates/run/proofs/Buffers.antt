@@ -9,17 +9,17 @@ use lib.Dec.{T, eqb, eqb→eq}
 use Rattle.numbers.specs.Every.{Every}
 use Rattle.run.specs.Plan.{RunPlan}
 use Rattle.run.specs.Machine.{Machine, stays, leaves, Visit, visit}
-use Rattle.run.specs.Firing.{isOpen, Ends, InPeriod, taken, made, claimed, givenBack, total, totalIn, openIn}
+use Rattle.run.specs.Firing.{isOpen, EndTimes, InPeriod, taken, made, claimed, givenBack, total, totalIn, openIn}
 use Rattle.run.proofs.Sound.{Sound}
 use Rattle.run.proofs.Tallies.{if-le, if-none, if-same, if-so}
 use Rattle.run.proofs.Tokens.{done-begun, visit-taken, visit-claimed, visit-closed}
 use Rattle.run.proofs.Links.{Linked, Good, at-most, in-one}
 
 -- a good visit, each of whose firings ends within its period
-abbrev pub Fine : RunPlan → Ends → Visit → Type 0
+abbrev pub Fine : RunPlan → EndTimes → Visit → Type 0
 Fine p e v = Good p v × InPeriod p e v
 
-module _ (p : RunPlan) (e : Ends) where
+module _ (p : RunPlan) (e : EndTimes) where
   pub all-fine : (vs : List Visit) → Every (Good p) vs → Every (InPeriod p e) vs → Every (Fine p e) vs
   all-fine [] good timely = tt
   all-fine (v ∷ vs) good timely = ((good .0, timely .0), all-fine vs (good .1) (timely .1))
@@ -34,7 +34,7 @@ module _ (p : RunPlan) (e : Ends) where
   total-plus f g [] = refl
   total-plus f g (v ∷ vs) = omega (arith, total-plus f g vs)
 
-module _ (p : RunPlan) (ok : Sound p) (e : Ends) where
+module _ (p : RunPlan) (ok : Sound p) (e : EndTimes) where
   pub no-borrowing : (c t : ℕ) (vs : List Visit) → Every (Fine p e) vs → Every (λ v. c < p .channels (v .mode) → taken p c t v ≤ made p e c t v) vs
   no-borrowing c t [] fine = tt
   no-borrowing c t (v ∷ vs) (((l, w), timely), fine) = ((λ i. visit-taken p ok (v .mode) (v .start) l e c i t (v .leave) timely w), no-borrowing c t vs fine)

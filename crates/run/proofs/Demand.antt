@@ -3,15 +3,15 @@ use Prim.Native.Nat.{zero-le}
 use Rattle.numbers.specs.Every.{Every}
 use Rattle.run.specs.Plan.{RunPlan}
 use Rattle.run.specs.Machine.{visits, begin, run}
-use Rattle.run.specs.Demand.{EveryRun, Demand3}
-use Rattle.run.specs.Firing.{Ends, InPeriod}
+use Rattle.run.specs.Demand.{EveryRun, RightRuns}
+use Rattle.run.specs.Firing.{EndTimes, InPeriod}
 use Rattle.run.proofs.Sound.{Sound}
 use Rattle.run.proofs.Delay.{delay-set, delay-worst, delay-same, delay-reached}
 use Rattle.run.proofs.Links.{linked, all-good, others-closed}
 use Rattle.run.proofs.Buffers as Buffers
 use Rattle.run.proofs.Processors as Processors
 
-pub demand-3 : (p : RunPlan) → Sound p → Demand3 p
+pub demand-3 : (p : RunPlan) → Sound p → RightRuns p
 demand-3 p ok = record {
   no-missing = λ e m start rs timely k c t i. Buffers.no-missing p ok e k c t i (visits (run p (begin p m) rs)) (fine e m start rs timely);
   no-borrowing = λ e m start rs timely c t. Buffers.no-borrowing p ok e c t (visits (run p (begin p m) rs)) (fine e m start rs timely);
@@ -26,5 +26,5 @@ demand-3 p ok = record {
   alone = λ m start rs n begun qs r q h k e f g. delay-same p ok (run p (begin p m) rs .now) (run p (begin p n) qs .now) r q h k e f g;
 }
   where
-    fine : (e : Ends) → EveryRun p (λ s. Every (InPeriod p e) (visits s) → Every (Buffers.Fine p e) (visits s))
+    fine : (e : EndTimes) → EveryRun p (λ s. Every (InPeriod p e) (visits s) → Every (Buffers.Fine p e) (visits s))
     fine e m start rs timely = Buffers.all-fine p e (visits (run p (begin p m) rs)) (all-good p (linked p ok m start rs)) timely

@@ -10,4 +10,3 @@ pub mod Processors
 pub mod Window
 pub mod Beside
 pub mod Demand
-mod Printed

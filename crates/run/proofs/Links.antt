@@ -11,7 +11,7 @@ use lib.Ieee.Fits.{and-l, and-r}
 use Rattle.numbers.specs.Every.{Every}
 use Rattle.numbers.specs.Quotient.{roundedOf}
 use Rattle.run.specs.Plan.{RunPlan, startup}
-use Rattle.run.specs.Machine.{Machine, Request, refusal, leaving, next, Leave, stays, leaves, Visit, visit, Run, begin, answer, run}
+use Rattle.run.specs.Machine.{Machine, Request, refusal, leaving, changed, Leave, stays, leaves, Visit, visit, Run, begin, answer, run}
 use Rattle.run.specs.Firing.{isOpen, total, openIn}
 use Rattle.run.specs.Demand.{EveryRun}
 use Rattle.run.proofs.Sound.{Sound}
@@ -51,7 +51,7 @@ module _ (p : RunPlan) where
 
 module _ (p : RunPlan) (ok : Sound p) where
   -- every run is linked
-  link : (m : Machine) (r : Request) → refusal p m r ≡ 0 → Link p m (leaving p m r) (next p m r)
+  link : (m : Machine) (r : Request) → refusal p m r ≡ 0 → Link p m (leaving p m r) (changed p m r)
   link m r h =
       let a = accepted p m r h in
       record {

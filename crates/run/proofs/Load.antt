@@ -11,7 +11,7 @@ use Rattle.numbers.specs.Sum.{sum, sum-le, sum-none}
 use Rattle.numbers.specs.Fraction.{Proper, AtMost, Same, plus, sum-proper, sum-common, nothing}
 use Rattle.numbers.specs.declared.fraction.Fraction.{Fraction}
 use Rattle.units.specs.Limits.{LOAD-LIMIT}
-use Rattle.run.specs.Plan.{RunPlan, Acts, startup, isOn, askedBy}
+use Rattle.run.specs.Plan.{RunPlan, Acts, startup, worksOn, wcetOverPeriod}
 use Rattle.run.specs.Machine.{Leave, stays, leaves, Visit}
 use Rattle.run.specs.Firing.{fires, underWay, before, isOpen, tally, asks}
 use Rattle.run.proofs.Sound.{Sound, askedOf}
@@ -101,10 +101,10 @@ share p D m i = p .wcet m i * (D / p .period m i)
 
 -- what a visit asks, and what the actors ask that count
 unfoldable pub parts : RunPlan → ℕ → ℕ → ℕ → Visit → ℕ
-parts p D proc t v = sum (λ i. cond (isOn p (v .mode) proc i) (tally (underWay p v i t) (λ n. share p D (v .mode) i) (suc t)) 0) (p .actors)
+parts p D proc t v = sum (λ i. cond (worksOn p (v .mode) proc i) (tally (underWay p v i t) (λ n. share p D (v .mode) i) (suc t)) 0) (p .actors)
 
 abbrev pub loadOf : RunPlan → ℕ → ℕ → ℕ → (ℕ → Bool) → ℕ
-loadOf p D m proc counts = sum (λ i. cond (isOn p m proc i && counts i) (share p D m i) 0) (p .actors)
+loadOf p D m proc counts = sum (λ i. cond (worksOn p m proc i && counts i) (share p D m i) 0) (p .actors)
 
 module _ (p : RunPlan) (ok : Sound p) (D : ℕ) (common : Common p D) where
   module _ (m : ℕ) (yes-listed : T (p .listed m)) where
@@ -112,21 +112,21 @@ module _ (p : RunPlan) (ok : Sound p) (D : ℕ) (common : Common p D) where
     period-divides i a =
         div-mul-cancel (p .period m i) (dvd-trans (p .period m i) (subst (λ (x : ℕ). p .period m i ∣ x) (ok .filled m i yes-listed a) (dvd-mul-left (p .period m i) (p .firings m i))) (common m yes-listed))
 
-    asked-share : (i : ℕ) → Acts p m i → Same (askedBy p m i) (partsOf D (share p D m i))
+    asked-share : (i : ℕ) → Acts p m i → Same (wcetOverPeriod p m i) (partsOf D (share p D m i))
     asked-share i a =
         ap (λ (x : ℕ). p .wcet m i * x) (sym (period-divides i a)) ∙ sym (mul-assoc (p .wcet m i) (D / p .period m i) (p .period m i))
 
-    is-acting : (proc i : ℕ) → i < p .actors → T (isOn p m proc i) → Acts p m i
-    is-acting proc i l t = (l, and-l (p .active m i) (eqb (p .processor i) proc) t)
+    is-acting : (proc i : ℕ) → i < p .actors → T (worksOn p m proc i) → Acts p m i
+    is-acting proc i l t = (l, and-l (p .active m i) (eqb (p .processor m i) proc) t)
 
     load-same : (proc : ℕ) (counts : ℕ → Bool) → Same (askedOf p m proc counts) (partsOf D (loadOf p D m proc counts))
     load-same proc counts = sum-common _ _ D (p .actors) (λ i l.
-        part-if D (isOn p m proc i && counts i) (askedBy p m i) (share p D m i) (λ t. asked-share i (is-acting proc i l (and-l (isOn p m proc i) (counts i) t))))
+        part-if D (worksOn p m proc i && counts i) (wcetOverPeriod p m i) (share p D m i) (λ t. asked-share i (is-acting proc i l (and-l (worksOn p m proc i) (counts i) t))))
 
     load-proper : (proc : ℕ) (counts : ℕ → Bool) → Proper (askedOf p m proc counts)
-    load-proper proc counts = sum-proper _ (p .actors) (λ i l. go (isOn p m proc i && counts i) (λ t. is-acting proc i l (and-l (isOn p m proc i) (counts i) t)))
+    load-proper proc counts = sum-proper _ (p .actors) (λ i l. go (worksOn p m proc i && counts i) (λ t. is-acting proc i l (and-l (worksOn p m proc i) (counts i) t)))
       where
-        go : (b : Bool) {i : ℕ} → (T b → Acts p m i) → Proper (cond b (askedBy p m i) nothing)
+        go : (b : Bool) {i : ℕ} → (T b → Acts p m i) → Proper (cond b (wcetOverPeriod p m i) nothing)
         go true {i} a = ok .some-period m i yes-listed (a tt)
         go false a = omega arith
 
@@ -144,8 +144,8 @@ module _ (p : RunPlan) (ok : Sound p) (D : ℕ) (common : Common p D) where
 
   pub asks-same : (proc t : ℕ) (v : Visit) → T (p .listed (v .mode)) → Same (asks p proc t v) (partsOf D (parts p D proc t v))
   unfolding asks parts tally
-  asks-same proc t v li = sum-common _ _ D (p .actors) (λ i l. part-if D (isOn p (v .mode) proc i) _ _ (λ a.
-      sum-common _ _ D (suc t) (λ n _. part-if D (underWay p v i t n) (askedBy p (v .mode) i) (share p D (v .mode) i) (λ _.
+  asks-same proc t v li = sum-common _ _ D (p .actors) (λ i l. part-if D (worksOn p (v .mode) proc i) _ _ (λ a.
+      sum-common _ _ D (suc t) (λ n _. part-if D (underWay p v i t n) (wcetOverPeriod p (v .mode) i) (share p D (v .mode) i) (λ _.
       asked-share (v .mode) li i (is-acting (v .mode) li proc i l a)))))
 
   module _ (m s : ℕ) (yes-listed : T (p .listed m)) (l : Leave) (w : Whole l s (p .iteration m)) (proc t : ℕ) where
@@ -153,7 +153,7 @@ module _ (p : RunPlan) (ok : Sound p) (D : ℕ) (common : Common p D) where
     pub parts-le : (counts : ℕ → Bool) → ((i : ℕ) → Acts p m i → T (works p (at m s l) i t) → T (counts i))
         → parts p D proc t (at m s l) ≤ loadOf p D m proc counts
     unfolding parts
-    parts-le counts h = sum-le _ _ (p .actors) (λ i lt. term i (isOn p m proc i) (λ u. is-acting m yes-listed proc i lt u))
+    parts-le counts h = sum-le _ _ (p .actors) (λ i lt. term i (worksOn p m proc i) (λ u. is-acting m yes-listed proc i lt u))
       where
         term : (i : ℕ) (u : Bool) → (T u → Acts p m i)
             → cond u (tally (underWay p (at m s l) i t) (λ n. share p D m i) (suc t)) 0 ≤ cond (u && counts i) (share p D m i) 0
@@ -169,5 +169,5 @@ module _ (p : RunPlan) (ok : Sound p) (D : ℕ) (common : Common p D) where
     pub parts-none : (T (isOpen p t (at m s l)) → ⊥) → parts p D proc t (at m s l) ≡ 0
     parts-none h =
         let a = parts-le (λ i. false) (λ i a u. h (works-open p ok m s yes-listed l i t a u)) in
-        let b : loadOf p D m proc (λ i. false) ≡ 0 = sum-none _ (p .actors) (λ i _. if-none (isOn p m proc i && false) _ (λ u. absurd (and-r (isOn p m proc i) false u))) in
+        let b : loadOf p D m proc (λ i. false) ≡ 0 = sum-none _ (p .actors) (λ i _. if-none (worksOn p m proc i && false) _ (λ u. absurd (and-r (worksOn p m proc i) false u))) in
         omega arith

@@ -4,23 +4,23 @@ use mathlib.Core.Path.{_≡_}
 use mathlib.Core.Logic.{_≢_}
 use mathlib.Core.Bool.{Bool, true, _&&_, cond}
 use lib.Dec.{T, leb, ltb}
-use Rattle.numbers.specs.Extreme.{First}
+use Rattle.numbers.specs.Extreme.{ExactlyFirst}
 use Rattle.numbers.specs.Sum.{sum}
 use Rattle.numbers.specs.Fraction.{AtMost, plus, sumOf, nothing}
 use Rattle.numbers.specs.declared.fraction.Fraction.{Fraction}
 use Rattle.units.specs.Limits.{CLOCK-LIMIT, limitOf}
-use Rattle.run.specs.Plan.{RunPlan, Acts, startup, isOn, askedBy}
+use Rattle.run.specs.Plan.{RunPlan, Acts, startup, worksOn, wcetOverPeriod}
 
 -- A mode that starts at tick 0 and runs for ever: k firings of actor i have begun by tick x, or ended.
 abbrev pub HaveBegun : RunPlan → ℕ → ℕ → ℕ → ℕ → Type 0
-HaveBegun p m i x = First (λ n. p .start m i + n * p .period m i ≤ x)
+HaveBegun p m i x = ExactlyFirst (λ n. p .start m i + n * p .period m i ≤ x)
 
 abbrev pub HaveEnded : RunPlan → ℕ → ℕ → ℕ → ℕ → Type 0
-HaveEnded p m i x = First (λ n. p .start m i + (n + 1) * p .period m i ≤ x)
+HaveEnded p m i x = ExactlyFirst (λ n. p .start m i + (n + 1) * p .period m i ≤ x)
 
 -- what those actors of a mode ask together of a processor that count
 abbrev pub askedOf : RunPlan → ℕ → ℕ → (ℕ → Bool) → Fraction
-askedOf p m proc counts = sumOf (λ i. cond (isOn p m proc i && counts i) (askedBy p m i) nothing) (p .actors)
+askedOf p m proc counts = sumOf (λ i. cond (worksOn p m proc i && counts i) (wcetOverPeriod p m i) nothing) (p .actors)
 
 pub record Sound (p : RunPlan) : Type 0 where
   -- listed modes are numbered below some bound

@@ -10,7 +10,7 @@ use lib.Ieee.Fits.{and-l, and-r, and-i}
 use Rattle.numbers.specs.Sum.{sum, sum-more, sum-next}
 use Rattle.run.specs.Plan.{RunPlan, Acts, startup}
 use Rattle.run.specs.Machine.{Leave, stays, leaves, Visit}
-use Rattle.run.specs.Firing.{begins, fires, before, isOpen, Ends, InPeriod, begun, done, taken, made, claimed, givenBack}
+use Rattle.run.specs.Firing.{begins, fires, before, isOpen, EndTimes, InPeriod, begun, done, taken, made, claimed, givenBack}
 use Rattle.run.proofs.Sound.{Sound, HaveBegun, HaveEnded}
 use Rattle.run.proofs.Tallies.{split, all-below, tally-sub, tally-sum, sum-tally, tally-none}
 
@@ -77,7 +77,7 @@ module _ (p : RunPlan) (ok : Sound p) (m s : ℕ) (yes-listed : T (p .listed m))
         (lt→ltb (n * p .period m i) (f - s) (omega (arith, k-inside i k n a c, ok .some-period m i yes-listed a)))
         (le→leb (s + p .start m i + n * p .period m i) t (omega (arith, k-inside i k n a c)))))
 
-  module _ (e : Ends) where
+  module _ (e : EndTimes) where
     -- what has ended has begun
     pub done-begun : (l : Leave) → InPeriod p e (at m s l) → (i : ℕ) (w : ℕ → ℕ) (t : ℕ) → Acts p m i → done p e (at m s l) i w t ≤ begun p (at m s l) i w t
     unfolding done begun

@@ -9,7 +9,7 @@ use lib.Dec.{T, leb, ltb, eqb, leb→le, le→leb, lt→ltb}
 use lib.Ieee.Fits.{and-l, and-r, and-i}
 use Rattle.numbers.specs.Every.{Every}
 use Rattle.numbers.specs.Sum.{sum, sum-le, sum-most, sum-least, sum-times, sum-plus, sum-swap, sum-parts, sum-more}
-use Rattle.run.specs.Plan.{RunPlan, Acts, isOn}
+use Rattle.run.specs.Plan.{RunPlan, Acts, worksOn}
 use Rattle.run.specs.Machine.{Visit, visits, begin, run}
 use Rattle.run.specs.Firing.{begins, fires, underWay, tally, total}
 use Rattle.run.specs.Demand.{EveryRun}
@@ -26,7 +26,7 @@ within p v i a b n = fires p v i n && (leb a (begins p v i n) && leb (begins p v
 
 -- the ticks of a processor that such firings of a visit need: the wcet of each
 unfoldable pub needs : RunPlan → ℕ → ℕ → ℕ → Visit → ℕ
-needs p proc a b v = sum (λ i. cond (isOn p (v .mode) proc i) (tally (within p v i a b) (λ n. p .wcet (v .mode) i) (suc b)) 0) (p .actors)
+needs p proc a b v = sum (λ i. cond (worksOn p (v .mode) proc i) (tally (within p v i a b) (λ n. p .wcet (v .mode) i) (suc b)) 0) (p .actors)
 
 -- where a test holds for k numbers in a row, from u on
 row : (test : ℕ → Bool) (x u k n : ℕ) → u + k ≤ n → ((t : ℕ) → u ≤ t → t < u + k → T (test t)) → k * x ≤ sum (λ t. cond (test t) x 0) n
@@ -77,8 +77,8 @@ module _ (p : RunPlan) (ok : Sound p) (D : ℕ) (common : Common p D) (proc a b 
 
   visit-needs : needs p proc a b v * D ≤ sum (λ t. parts p D proc (a + t) v) (b - a)
   unfolding needs parts
-  visit-needs = over-ticks _ (λ t i. cond (isOn p (v .mode) proc i) (tally (underWay p v i (a + t)) (λ n. share p D (v .mode) i) (suc (a + t))) 0) D (p .actors) (b - a)
-      (λ i l. actor i (isOn p (v .mode) proc i) (λ u. (l, and-l (p .active (v .mode) i) (eqb (p .processor i) proc) u)))
+  visit-needs = over-ticks _ (λ t i. cond (worksOn p (v .mode) proc i) (tally (underWay p v i (a + t)) (λ n. share p D (v .mode) i) (suc (a + t))) 0) D (p .actors) (b - a)
+      (λ i l. actor i (worksOn p (v .mode) proc i) (λ u. (l, and-l (p .active (v .mode) i) (eqb (p .processor (v .mode) i) proc) u)))
     where
       actor : (i : ℕ) (u : Bool) → (T u → Acts p (v .mode) i)
           → cond u (tally (within p v i a b) (λ n. p .wcet (v .mode) i) (suc b)) 0 * D

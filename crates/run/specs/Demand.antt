@@ -9,15 +9,15 @@ use Rattle.numbers.specs.Fraction.{AtMost}
 use Rattle.units.specs.Limits.{limitOf}
 use Rattle.run.specs.Plan.{RunPlan}
 use Rattle.run.specs.Machine.{Machine, Request, refusal, delay, worst, stays, Visit, visit, Run, visits, begin, answer, run}
-use Rattle.run.specs.Firing.{begins, Ends, InPeriod, taken, made, claimed, givenBack, totalIn, openIn, asked}
+use Rattle.run.specs.Firing.{begins, EndTimes, InPeriod, taken, made, claimed, givenBack, totalIn, openIn, asked}
 
 -- what holds of every run: of every starting mode and every list of requests, refused ones among them
 abbrev pub EveryRun : RunPlan → (Run → Type 0) → Type 0
 EveryRun p Q = (m : ℕ) → T (p .listed m) → (rs : List Request) → Q (run p (begin p m) rs)
 
 -- what holds of the visits of every run, if each firing ends within its period
-abbrev pub Timely : RunPlan → (Ends → List Visit → Type 0) → Type 0
-Timely p Q = (e : Ends) → EveryRun p (λ s. Every (InPeriod p e) (visits s) → Q e (visits s))
+abbrev pub Timely : RunPlan → (EndTimes → List Visit → Type 0) → Type 0
+Timely p Q = (e : EndTimes) → EveryRun p (λ s. Every (InPeriod p e) (visits s) → Q e (visits s))
 
 -- the tick set for the first firing of the sink in the mode now running
 abbrev pub sinkSet : RunPlan → Run → ℕ
@@ -28,7 +28,7 @@ abbrev pub place : RunPlan → Machine → Request → ℕ
 place p m r = (r .tick - m .started) % p .iteration (m .mode)
 
 -- m, c, t and proc are any mode, channel of it, tick and processor.
-pub record Demand3 (p : RunPlan) : Type 0 where
+pub record RightRuns (p : RunPlan) : Type 0 where
   -- No actor ever takes a token that is not there: by any tick no more were taken from a buffer than were made ..
   pub no-missing : Timely p (λ e vs. (m c t : ℕ) → c < p .channels m → totalIn vs m (taken p c t) ≤ totalIn vs m (made p e c t))
   -- .. and each visit takes only what it has made.

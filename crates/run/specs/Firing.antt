@@ -6,7 +6,7 @@ use lib.Dec.{T, leb, ltb, eqb}
 use Rattle.numbers.specs.Sum.{sum}
 use Rattle.numbers.specs.Fraction.{plus, sumOf, nothing}
 use Rattle.numbers.specs.declared.fraction.Fraction.{Fraction}
-use Rattle.run.specs.Plan.{RunPlan, Acts, startup, isOn, askedBy}
+use Rattle.run.specs.Plan.{RunPlan, Acts, startup, worksOn, wcetOverPeriod}
 use Rattle.run.specs.Machine.{Leave, stays, leaves, Visit}
 
 -- firing n of actor i of a visit begins at this tick ..
@@ -34,11 +34,11 @@ abbrev pub isOpen : RunPlan → ℕ → Visit → Bool
 isOpen p t v = leb (v .start) t && before (v .leave) (startup p (v .mode)) t
 
 -- when each firing of each actor of each visit ends
-abbrev pub Ends : Type 0
-Ends = Visit → ℕ → ℕ → ℕ
+abbrev pub EndTimes : Type 0
+EndTimes = Visit → ℕ → ℕ → ℕ
 
 -- each firing of a visit ends within its period
-abbrev pub InPeriod : RunPlan → Ends → Visit → Type 0
+abbrev pub InPeriod : RunPlan → EndTimes → Visit → Type 0
 InPeriod p e v = (i n : ℕ) → Acts p (v .mode) i → T (fires p v i n) → (begins p v i n ≤ e v i n) × (e v i n ≤ begins p v i n + p .period (v .mode) i)
 
 -- the sum of f n over the numbers n below a bound that pass a test
@@ -50,7 +50,7 @@ tally test f bound = sum (λ n. cond (test n) (f n) 0) bound
 unfoldable pub begun : RunPlan → Visit → ℕ → (ℕ → ℕ) → ℕ → ℕ
 begun p v i f t = tally (λ n. fires p v i n && leb (begins p v i n) t) f (suc t)
 
-unfoldable pub done : RunPlan → Ends → Visit → ℕ → (ℕ → ℕ) → ℕ → ℕ
+unfoldable pub done : RunPlan → EndTimes → Visit → ℕ → (ℕ → ℕ) → ℕ → ℕ
 done p e v i f t = tally (λ n. fires p v i n && leb (e v i n) t) f (suc t)
 
 -- Of channel c, by tick t, in one visit: the tokens taken, when a firing begins, and made, when one ends; and the places claimed, when a firing
@@ -58,13 +58,13 @@ done p e v i f t = tally (λ n. fires p v i n && leb (e v i n) t) f (suc t)
 abbrev pub taken : RunPlan → ℕ → ℕ → Visit → ℕ
 taken p c t v = begun p v (p .to (v .mode) c) (p .consumption (v .mode) c) t
 
-abbrev pub made : RunPlan → Ends → ℕ → ℕ → Visit → ℕ
+abbrev pub made : RunPlan → EndTimes → ℕ → ℕ → Visit → ℕ
 made p e c t v = done p e v (p .from (v .mode) c) (p .production (v .mode) c) t
 
 abbrev pub claimed : RunPlan → ℕ → ℕ → Visit → ℕ
 claimed p c t v = begun p v (p .from (v .mode) c) (p .production (v .mode) c) t
 
-abbrev pub givenBack : RunPlan → Ends → ℕ → ℕ → Visit → ℕ
+abbrev pub givenBack : RunPlan → EndTimes → ℕ → ℕ → Visit → ℕ
 givenBack p e c t v = done p e v (p .to (v .mode) c) (p .consumption (v .mode) c) t
 
 -- what a count of one visit comes to over a list of visits, and over those of mode m
@@ -82,7 +82,7 @@ openIn p vs m t = totalIn vs m (λ v. cond (isOpen p t v) 1 0)
 -- What a visit asks of a processor at tick t: each firing under way asks for wcet / T. And what all the visits of a list ask.
 unfoldable pub asks : RunPlan → ℕ → ℕ → Visit → Fraction
 asks p proc t v =
-    sumOf (λ i. cond (isOn p (v .mode) proc i) (sumOf (λ n. cond (underWay p v i t n) (askedBy p (v .mode) i) nothing) (suc t)) nothing) (p .actors)
+    sumOf (λ i. cond (worksOn p (v .mode) proc i) (sumOf (λ n. cond (underWay p v i t n) (wcetOverPeriod p (v .mode) i) nothing) (suc t)) nothing) (p .actors)
 
 unfoldable pub asked : RunPlan → ℕ → ℕ → List Visit → Fraction
 asked p proc t [] = nothing

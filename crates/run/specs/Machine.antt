@@ -33,8 +33,8 @@ abbrev pub leaving : RunPlan → Machine → Request → ℕ
 leaving p m r = m .started + p .iteration (m .mode) * roundedOf (r .tick - m .started) (p .iteration (m .mode))
 
 -- the machine after an accepted request: the new mode starts at F + d, and the change has ended when both start-ups have
-abbrev pub next : RunPlan → Machine → Request → Machine
-next p m r = record {
+abbrev pub changed : RunPlan → Machine → Request → Machine
+changed p m r = record {
   mode = r .mode;
   started = leaving p m r + p .offset (m .mode) (r .mode);
   ended = max (leaving p m r + startup p (m .mode)) (leaving p m r + p .offset (m .mode) (r .mode) + startup p (r .mode));
@@ -77,7 +77,7 @@ begin p m = record { now = record { mode = m; started = 0; ended = startup p m }
 unfoldable pub answer : RunPlan → Run → Request → Run
 answer p s r =
     cond (eqb (refusal p (s .now) r) 0)
-    (record { now = next p (s .now) r; past = visit (s .now) (leaves (leaving p (s .now) r)) ∷ s .past })
+    (record { now = changed p (s .now) r; past = visit (s .now) (leaves (leaving p (s .now) r)) ∷ s .past })
     s
 
 -- a list of requests, answered one after the other

@@ -8,10 +8,10 @@ use Rattle.numbers.specs.declared.fraction.Fraction.{Fraction}
 pub record RunPlan : Type 0 where
   -- the modes that can be run
   pub listed : ℕ → Bool
-  -- each actor is below this; those that are active in a mode; the processor of an actor, in all modes
+  -- each actor is below this; those that are active in a mode, and their processors
   pub actors : ℕ
   pub active : ℕ → ℕ → Bool
-  pub processor : ℕ → ℕ
+  pub processor : ℕ → ℕ → ℕ
   -- of an actor of a mode: the longest time of a firing, the firings of an iteration, the period T, the start S
   pub wcet : ℕ → ℕ → ℕ
   pub firings : ℕ → ℕ → ℕ
@@ -42,9 +42,9 @@ abbrev pub Acts : RunPlan → ℕ → ℕ → Type 0
 Acts p m i = (i < p .actors) × T (p .active m i)
 
 -- and works on the processor
-abbrev pub isOn : RunPlan → ℕ → ℕ → ℕ → Bool
-isOn p m proc i = p .active m i && eqb (p .processor i) proc
+abbrev pub worksOn : RunPlan → ℕ → ℕ → ℕ → Bool
+worksOn p m proc i = p .active m i && eqb (p .processor m i) proc
 
 -- what an actor asks of its processor: wcet / T
-abbrev pub askedBy : RunPlan → ℕ → ℕ → Fraction
-askedBy p m i = record { over = p .wcet m i; under = p .period m i }
+abbrev pub wcetOverPeriod : RunPlan → ℕ → ℕ → Fraction
+wcetOverPeriod p m i = record { over = p .wcet m i; under = p .period m i }

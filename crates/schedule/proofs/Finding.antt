@@ -20,7 +20,7 @@ use Rattle.tables.specs.Shape.{channelAt}
 use Rattle.graph.specs.Judged.{ofActors}
 use Rattle.channel.specs.Flow.{Fed}
 use Rattle.channel.specs.Laws.{cycle-p, cycle-c, period-p, start-within, fed-later, fed-earlier}
-use Rattle.schedule.specs.Starts.{producerOf, consumerOf, FedOn, Timely, Starts}
+use Rattle.schedule.specs.Starts.{producerOf, consumerOf, FedOn, AllFed, Starts}
 use Rattle.schedule.specs.Reached.{startAt, toDepth, Asked, Ready, Reached, Fits}
 
 module _ (m : Mode) (ps : List Tick) (ds : List ℕ) (ready : Ready m ps ds) where
@@ -98,7 +98,7 @@ module _ (m : Mode) (ps : List Tick) (ds : List ℕ) (ready : Ready m ps ds) whe
                   (omega (arith, ap (λ (i : ℕ). startAt l i .0) x)) (before y))
               go (yes x) (yes y) = rw (y, same) (fed-later (producerOf m ps k) (consumerOf m ps k) (period k h) _ r later (omega arith) (asked .holds))
 
-          least : (u : ℕ → Tick) → Timely m ps u → (i : ℕ) → Dec (i ≡ to) → startAt (set l to later) i .0 ≤ u i .0
+          least : (u : ℕ → Tick) → AllFed m ps u → (i : ℕ) → Dec (i ≡ to) → startAt (set l to later) i .0 ≤ u i .0
           least u t i (no q) = rw (other i q) (reached .least u t i)
           least u t i (yes q) =
               rw (q, same)

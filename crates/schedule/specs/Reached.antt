@@ -15,7 +15,7 @@ use Rattle.tables.specs.Proper.{ProperMode}
 use Rattle.channel.specs.Flow.{Fed, Paced}
 use Rattle.schedule.specs.declared.Timing.{Timing}
 use Rattle.schedule.specs.declared.Timing.the-variants.{Late as IsLate, OnTime}
-use Rattle.schedule.specs.Starts.{producerOf, consumerOf, FedOn, Timely}
+use Rattle.schedule.specs.Starts.{producerOf, consumerOf, FedOn, AllFed}
 
 -- the start of actor i in a list
 abbrev pub startAt : List Tick → ℕ → Tick
@@ -46,7 +46,7 @@ pub record Ready (m : Mode) (ps : List Tick) (ds : List ℕ) : Type 0 where
 pub record Reached (m : Mode) (ps : List Tick) (ds : List ℕ) (d k : ℕ) (l : List Tick) : Type 0 where
   pub long : length l ≡ ACTORS
   pub fed : (n : ℕ) → n < m .count → toDepth m ds n * CHANNELS + n < d * CHANNELS + k → FedOn m ps (startAt l) n
-  pub least : (u : ℕ → Tick) → Timely m ps u → (i : ℕ) → startAt l i .0 ≤ u i .0
+  pub least : (u : ℕ → Tick) → AllFed m ps u → (i : ℕ) → startAt l i .0 ≤ u i .0
   pub within : (i : ℕ) → startAt l i .0 ≤ getD ds i 0 * MOST-WAIT .0
 
 -- an actor of the set starts later than the tick t; the answer names the lowest, or says that there is none
@@ -63,5 +63,5 @@ pub record Fits (m : Mode) (ps l : List Tick) : Type 0 where
   pub periods-long : length ps ≡ ACTORS
   pub long : length l ≡ ACTORS
   pub paced : (k : ℕ) → k < m .count → Paced (producerOf m ps k) (consumerOf m ps k)
-  pub fed : Timely m ps (startAt l)
+  pub fed : AllFed m ps (startAt l)
   pub within : (i : ℕ) → startAt l i .0 ≤ MOST-START .0

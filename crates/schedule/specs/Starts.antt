@@ -31,13 +31,13 @@ abbrev pub FedOn : Mode → List Tick → (ℕ → Tick) → ℕ → Type 0
 FedOn m ps s k = Fed (producerOf m ps k) (s (channelAt m k .from)) (consumerOf m ps k) (s (channelAt m k .to))
 
 -- and on no channel of the mode
-abbrev pub Timely : Mode → List Tick → (ℕ → Tick) → Type 0
-Timely m ps s = (k : ℕ) → k < m .count → FedOn m ps s k
+abbrev pub AllFed : Mode → List Tick → (ℕ → Tick) → Type 0
+AllFed m ps s = (k : ℕ) → k < m .count → FedOn m ps s k
 
 -- s gives the starts: every one is the least among all such tables, which is 0 where there is no actor
 pub record Starts (m : Mode) (ps : List Tick) (s : ℕ → Tick) : Type 0 where
-  pub timely : Timely m ps s
-  pub least : (u : ℕ → Tick) → Timely m ps u → (i : ℕ) → s i .0 ≤ u i .0
+  pub timely : AllFed m ps s
+  pub least : (u : ℕ → Tick) → AllFed m ps u → (i : ℕ) → s i .0 ≤ u i .0
 
 -- the end of a mode's start-up: the sink's start
 abbrev pub startupOf : (ℕ → Tick) → ℕ → Tick

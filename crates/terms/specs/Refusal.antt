@@ -72,6 +72,10 @@ NO-PLAN = 15
 abbrev pub NO-MACHINE : ℕ
 NO-MACHINE = 16
 
+-- the refusal with this number and this place
+abbrev pub refusalAt : ℕ → Place → Refusal
+refusalAt n p = record { number = n; place = p }
+
 -- a line of five numbers
 abbrev pub lineOf : ℕ → ℕ → ℕ → ℕ → ℕ → Printed
 lineOf n r m a p = record { number = n; row = r; mode = m; actor = a; processor = p }
