@@ -6,12 +6,9 @@ use mathlib.Core.List.{List}
 use Prim.Native.Nat.{ℕ, suc, _^_, _≤_}
 use native.Mathlib.Omega.{arith}
 use lib.Dec.{T, ltb, eqb}
-use lib.ListN.{length, getD}
+use lib.ListN.{length}
 use Rattle.units.specs.declared.Tick.{Tick}
-use Rattle.units.specs.declared.Firing.{Firing}
 use Rattle.units.specs.Ticks.{tick}
-use Rattle.units.specs.Firings.{firing}
-use Rattle.period.specs.Period.{periodOf}
 use Rattle.terms.specs.declared.refusal.Refusal.{Refusal}
 use Rattle.tables.specs.declared.Mode.{Mode}
 use Rattle.tables.specs.declared.Table.{Table}
@@ -23,16 +20,12 @@ use Rattle.reader.specs.Rows.{Row, by-3, by-4, by-5}
 use Rattle.reader.specs.Numbers.{readNumbers}
 use Rattle.reader.specs.Told.{Outcome as Rows, rows, refused as rows-refused, FrontRefused, After, Of, readingOf, Told}
 use Rattle.reader.proofs.Again.{reads-proper}
-use Rattle.graph.specs.Balance.{firingsOf}
-use Rattle.schedule.proofs.Sound.{at-actor}
-use Rattle.planning.specs.declared.ModePlan.{ModePlan}
 use Rattle.planning.specs.declared.Plan.{Plan}
 use Rattle.planning.specs.declared.Outcome.{Outcome}
 use Rattle.planning.specs.declared.Answer.{Answer as PlanningAnswer}
 use Rattle.planning.specs.declared.Answer.the-variants.{Planned as IsPlanned, Refused as NotPlanned}
 use Rattle.planning.specs.Numbers.{modesNumbers}
-use Rattle.planning.specs.Plan.{ModeRefused, ModePlanned, Planned, Planning}
-use Rattle.planning.proofs.Told.{judged-sound, scheduled-times}
+use Rattle.planning.specs.Plan.{ModeRefused, Planned, Planning}
 use Rattle.planning.proofs.Exists.{planning-exists}
 use Rattle.run.specs.Plan.{RunPlan}
 use Rattle.run.specs.Machine as Run
@@ -50,7 +43,7 @@ use Rattle.machine.specs.Answers.{seen, asking, machine, Meant, Begins, refusin
 use Rattle.machine.proofs.Unique.{begins-unique, answers-unique}
 use Rattle.machine.proofs.Steps.{listed-zero}
 use Rattle.machine.proofs.Demand as Machine′
-use Rattle.demands.specs.Demands.{OnTable, OnStart, OnRequest, Demand1, ModeRight, Right, TableRefused, Demand2, Demand3}
+use Rattle.demands.specs.Demands.{OnTable, OnStart, OnRequest, Demand1, TableRefused, Demand2, Demand3}
 
 -- the numbers of the refusals of rows, and of modes
 abbrev OfRow : Rows → Type 0
@@ -152,42 +145,12 @@ demand-1 =
       one-request = answers-unique;
     }
 
-mode-right : {m : Mode} {p : ModePlan} → ModePlanned m p → ModeRight m p
-mode-right {m} {p} q =
-    let (x, n, numbers, light) = judged-sound (q .judged) (q .sound) in
-    let (s, starts, prompt, times) = scheduled-times (q .scheduled) (q .on-time) in
-    subst (ModeRight m) (sym (q .part))
-    (record {
-      ends = numbers .ends;
-      counts = x;
-      smallest = numbers .smallest;
-      firings = λ i a. ap (λ (l : List Firing). getD l i (firing 0)) (numbers .firings) ∙ at-actor m (firingsOf m x) (firing 0) i a;
-      iteration = numbers .iteration;
-      within = numbers .within;
-      periods = λ i a. ap (λ (l : List Tick). getD l i (tick 0)) (numbers .periods) ∙ at-actor m (λ i. periodOf _ (firingsOf m x i)) (tick 0) i a;
-      bearable = light;
-      begin = s;
-      least = starts;
-      starts = λ i a. ap (λ (l : List Tick). getD l i (tick 0)) (times .starts) ∙ at-actor m s (tick 0) i a;
-      startup = times .startup;
-      prompt = prompt;
-      sizes = times .sizes .size;
-      tokens = times .tokens;
-    })
-
-right : {t : Table} {w : Plan} → Planned t w → Right t w
-right p =
-    record {
-      modes = λ k l. mode-right (p .part k (l .0) .listed l);
-      changes = λ k l h. p .change k l (h .0 .0) (h .1 .0) .leads h;
-    }
-
-left-right : {text before words : List ℕ} {a : TableAnswer} → Plans text before a words → a ≡ Table′.Accepted
-    → (t : Table) × (w : Plan) × Reads text t × (words ≡ wordsOf t w) × Right t w
-left-right (Plans.wrong-length n) e = let z : _≡_ {A = ℕ} 0 1 = cc in absurd (omega arith)
-left-right (Plans.not-read l r) e = let z : _≡_ {A = ℕ} 0 1 = cc in absurd (omega arith)
-left-right (Plans.not-planned l r p) e = let z : _≡_ {A = ℕ} 0 1 = cc in absurd (omega arith)
-left-right (Plans.accepted {t} {w} l r p) e = (t, w, r, refl, right p)
+left-planned : {text before words : List ℕ} {a : TableAnswer} → Plans text before a words → a ≡ Table′.Accepted
+    → (t : Table) × (w : Plan) × Reads text t × (words ≡ wordsOf t w) × Planned t w
+left-planned (Plans.wrong-length n) e = let z : _≡_ {A = ℕ} 0 1 = cc in absurd (omega arith)
+left-planned (Plans.not-read l r) e = let z : _≡_ {A = ℕ} 0 1 = cc in absurd (omega arith)
+left-planned (Plans.not-planned l r p) e = let z : _≡_ {A = ℕ} 0 1 = cc in absurd (omega arith)
+left-planned (Plans.accepted {t} {w} l r p) e = (t, w, r, refl, p)
 
 refuses : {text before : List ℕ} {r : Refusal} → length before ≡ WORDS → TableRefused text r → Plans text before (Table′.Refused r) before
 refuses l (TableRefused.at-row told) = Plans.not-read l told
@@ -227,7 +190,7 @@ modes-numbers l reads (Planning.planned p) plans = ap planNumbers (plans-unique 
 pub demand-2 : Demand2
 demand-2 =
     record {
-      right = λ p. left-right p refl;
+      right = λ p. left-planned p refl;
       accepted = Plans.accepted;
       refused = refuses;
       only-then = λ l p. only-then l p refl;

@@ -5,33 +5,23 @@ use mathlib.Core.Logic.{_⊎_, _≢_}
 use mathlib.Core.List.{List}
 use Prim.Native.Nat.{ℕ, suc, _-_, _≤_, _<_}
 use lib.Dec.{T}
-use lib.ListN.{length, getD}
+use lib.ListN.{length}
 use Rattle.units.specs.declared.Tick.{Tick}
-use Rattle.units.specs.Ticks.{tick}
 use Rattle.units.specs.Tokens.{token}
-use Rattle.units.specs.Limits.{ITERATION-LIMIT}
 use Rattle.units.specs.Firings.{firing}
-use Rattle.period.specs.Period.{periodOf}
 use Rattle.terms.specs.Place.{numberOf}
 use Rattle.terms.specs.declared.refusal.Refusal.{Refusal}
-use Rattle.tables.specs.declared.Mode.{Mode}
 use Rattle.tables.specs.declared.Table.{Table}
-use Rattle.tables.specs.Shape.{Active, modeAt, emptyTable}
+use Rattle.tables.specs.Shape.{modeAt, emptyTable}
 use Rattle.reader.specs.declared.Answer.the-variants.{Read as IsRead, Refused as NotRead}
 use Rattle.reader.specs.declared.Reading.{Reading}
 use Rattle.reader.specs.Numbers.{readNumbers}
 use Rattle.reader.specs.Told.{Told}
-use Rattle.graph.specs.Ends.{Ends}
-use Rattle.graph.specs.Balance.{Smallest, Iteration, firingsOf}
-use Rattle.graph.specs.Load.{Overloaded}
-use Rattle.schedule.specs.Starts.{Starts, startupOf, Late}
-use Rattle.schedule.specs.Scheduled.{SizeOn, ofChannels, tokensOn}
-use Rattle.change.specs.Change.{Changes}
 use Rattle.planning.specs.declared.ModePlan.{ModePlan}
 use Rattle.planning.specs.declared.Plan.{Plan}
 use Rattle.planning.specs.declared.Outcome.{Outcome}
 use Rattle.planning.specs.Numbers.{modesNumbers}
-use Rattle.planning.specs.Plan.{partAt, changeAt, timesOf, Listed, Leads, ModePlanned, ModeRefused, Planned, Planning}
+use Rattle.planning.specs.Plan.{changeAt, Listed, ModePlanned, ModeRefused, Planned, Planning}
 use Rattle.run.specs.Machine as Run
 use Rattle.run.specs.Demand as Run′
 use Rattle.machine.specs.Plan.{isListed, planOf}
@@ -79,29 +69,6 @@ pub record Demand1 : Type 0 where
 -- ── Demand 2 ──
 -- "Firing counts, periods, starts, sizes, offsets, delays are those of document 01's rules; refusals are given exactly when those rules say so."
 
--- what is planned of a mode is what the rules say: with the smallest cycle counts that balance it, and the least starts of its actors
-pub record ModeRight (m : Mode) (p : ModePlan) : Type 0 where
-  pub ends : Ends m (p .source) (p .sink)
-  pub counts : ℕ → ℕ
-  pub smallest : Smallest m counts
-  pub firings : (i : ℕ) → Active m i → getD (p .firings) i (firing 0) ≡ firingsOf m counts i
-  pub iteration : Iteration m counts (p .iteration)
-  pub within : p .iteration .0 ≤ ITERATION-LIMIT .0
-  pub periods : (i : ℕ) → Active m i → getD (p .periods) i (tick 0) ≡ periodOf (p .iteration) (firingsOf m counts i)
-  pub bearable : (q : ℕ) → Overloaded m counts (p .iteration) q → ⊥
-  pub begin : ℕ → Tick
-  pub least : Starts m (p .periods) begin
-  pub starts : (i : ℕ) → Active m i → getD (p .starts) i (tick 0) ≡ begin i
-  pub startup : p .startup ≡ startupOf begin (p .sink)
-  pub prompt : (i : ℕ) → Late m begin (p .sink) i → ⊥
-  pub sizes : (c : ℕ) → c < m .count → SizeOn m (p .periods) begin c (getD (p .sizes) c (token 0))
-  pub tokens : p .tokens ≡ ofChannels m (tokensOn m (p .firings)) (token 0)
-
--- and of every mode and every change of a table
-pub record Right (t : Table) (w : Plan) : Type 0 where
-  pub modes : (k : ℕ) → Listed t k → ModeRight (modeAt t k) (partAt w k)
-  pub changes : (k l : ℕ) → Leads t k l → Changes (timesOf (modeAt t k) (partAt w k)) (timesOf (modeAt t l) (partAt w l)) (changeAt w k l)
-
 -- when a table is refused, in a buffer of the one length: the first refusal of its length and its rows; else that of its lowest mode that is refused
 pub data TableRefused (text : List ℕ) : Refusal → Type 0 where
   at-row : {r : Refusal} → Told text (record { answer = NotRead r; table = emptyTable }) → TableRefused text r
@@ -111,7 +78,7 @@ pub data TableRefused (text : List ℕ) : Refusal → Type 0 where
 pub record Demand2 : Type 0 where
   -- an accepted table leaves a plan whose numbers are right ..
   pub right : {text before words : List ℕ} → Plans text before Table′.Accepted words
-      → (t : Table) × (w : Plan) × Reads text t × (words ≡ wordsOf t w) × Right t w
+      → (t : Table) × (w : Plan) × Reads text t × (words ≡ wordsOf t w) × Planned t w
   -- .. and a table that has a plan is accepted
   pub accepted : {text before : List ℕ} {t : Table} {w : Plan} → length before ≡ WORDS → Reads text t → Planned t w → Plans text before Table′.Accepted (wordsOf t w)
   -- a table is refused when the rules say so, and only then; 15 where the buffer has another length

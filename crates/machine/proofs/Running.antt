@@ -1,5 +1,5 @@
 -- What a planned mode has: it is ready for a change, and its channels are balanced, fed and given room. Assumes nothing.
-use mathlib.Core.Path.{_≡_, sym, ap, subst, subst₂, _∙_}
+use mathlib.Core.Path.{_≡_, refl, sym, ap, subst₂, _∙_}
 use mathlib.Core.List.{List}
 use Prim.Native.Nat.{ℕ, _+_, _*_, _<_, _≤_}
 use native.Mathlib.Omega.{arith}
@@ -24,13 +24,12 @@ use Rattle.schedule.specs.Starts.{producerOf, consumerOf, FedOn}
 use Rattle.schedule.specs.Scheduled.{SizeOn}
 use Rattle.schedule.proofs.Sound.{at-actor}
 use Rattle.schedule.proofs.Modelled.{ready}
-use Rattle.schedule.proofs.Laws.{sink-active}
 use Rattle.change.specs.Work.{firingsAt, tickAt}
 use Rattle.change.specs.Running.{Ready}
 use Rattle.planning.specs.declared.ModePlan.{ModePlan}
 use Rattle.planning.specs.Steps.{runningOf}
 use Rattle.planning.specs.Plan.{ModePlanned}
-use Rattle.planning.proofs.Told.{judged-sound, scheduled-times}
+use Rattle.planning.proofs.Told.{judgementOf, planned-judged}
 use Rattle.planning.proofs.Bounds.{mode-small}
 use Rattle.planning.proofs.Running.{mode-ready}
 
@@ -61,29 +60,28 @@ cycles e h q x n is =
 
 pub mode-runs : (m : Mode) → ProperMode m → (p : ModePlan) → ModePlanned m p → Runs m p
 mode-runs m proper p w =
-    let j = w .judgement in
-    let (x, acyclic, n, bears) = judged-sound (w .judged) (w .sound) in
-    let (s, starts, never, times) = scheduled-times (w .scheduled) (w .on-time) in
-    let firings : (i : ℕ) → Active m i → getD (j .firings) i (firing 0) ≡ firingsOf m x i
-    = λ i a. ap (λ (l : List Firing). getD l i (firing 0)) (n .firings) ∙ at-actor m _ (firing 0) i a in
-    let start : (i : ℕ) → Active m i → getD (w .timetable .starts) i (tick 0) ≡ s i
-    = λ i a. ap (λ (l : List Tick). getD l i (tick 0)) (times .starts) ∙ at-actor m _ (tick 0) i a in
+    let (ds, ranked, judged) = planned-judged w proper in
+    let x = w .counts in
+    let firings : (i : ℕ) → Active m i → getD (p .firings) i (firing 0) ≡ firingsOf m x i
+    = λ i a. ap (λ (l : List Firing). getD l i (firing 0)) (w .firings) ∙ at-actor m _ (firing 0) i a in
+    let start : (i : ℕ) → Active m i → getD (p .starts) i (tick 0) ≡ w .begin i
+    = λ i a. ap (λ (l : List Tick). getD l i (tick 0)) (w .starts) ∙ at-actor m _ (tick 0) i a in
     let from : (k : ℕ) → k < m .count → Active m (channelAt m k .from) = λ k h. (proper .channel k h .from, proper .channel k h .from-active) in
     let to : (k : ℕ) → k < m .count → Active m (channelAt m k .to) = λ k h. (proper .channel k h .to, proper .channel k h .to-active) in
-    let paced = ready m j proper (w .judged) (w .sound) .paced in
-    subst (Runs m) (sym (w .part))
-    (record {
-      ready = subst (λ (p : ModePlan). Ready (runningOf m p)) (w .part) (mode-ready m proper p w);
-      sink = start (j .sink) (sink-active m j proper (w .judged) (w .sound)) ∙ sym (times .startup);
-      soon = subst (λ (p : ModePlan). p .startup .0 ≤ MOST-START .0) (w .part) (mode-small m p proper w .startup);
+    let paced = ready m (judgementOf ds p) proper judged refl .paced in
+    let end = w .balanced .ends .1 .0 in
+    record {
+      ready = mode-ready m proper p w;
+      sink = start (p .sink) (end .0, end .1) ∙ sym (w .startup);
+      soon = mode-small m p proper w .startup;
       balanced = λ k h r.
-          cycles (producerOf m (j .periods) k) (paced k h .producer) _ (x (channelAt m k .from)) r (ap (λ (q : Firing). q .0) (firings _ (from k h)))
-          ∙ ap (λ (v : Token). r * v .0) (n .smallest .balances .even k h)
-          ∙ sym (cycles (consumerOf m (j .periods) k) (paced k h .consumer) _ (x (channelAt m k .to)) r (ap (λ (q : Firing). q .0) (firings _ (to k h))));
+          cycles (producerOf m (p .periods) k) (paced k h .producer) _ (x (channelAt m k .from)) r (ap (λ (q : Firing). q .0) (firings _ (from k h)))
+          ∙ ap (λ (v : Token). r * v .0) (w .balanced .smallest .balances .even k h)
+          ∙ sym (cycles (consumerOf m (p .periods) k) (paced k h .consumer) _ (x (channelAt m k .to)) r (ap (λ (q : Firing). q .0) (firings _ (to k h))));
       fed = λ k h.
-          subst₂ (λ (a b : Tick). Fed (producerOf m (j .periods) k) a (consumerOf m (j .periods) k) b) (sym (start _ (from k h))) (sym (start _ (to k h)))
-          (starts .timely k h);
+          subst₂ (λ (a b : Tick). Fed (producerOf m (p .periods) k) a (consumerOf m (p .periods) k) b) (sym (start _ (from k h))) (sym (start _ (to k h)))
+          (w .least .timely k h);
       size = λ k h.
-          subst₂ (λ (a b : Tick). IsSize (producerOf m (j .periods) k) a (consumerOf m (j .periods) k) b (getD (w .timetable .sizes) k (token 0)))
-          (sym (start _ (from k h))) (sym (start _ (to k h))) (times .sizes .size k h);
-    })
+          subst₂ (λ (a b : Tick). IsSize (producerOf m (p .periods) k) a (consumerOf m (p .periods) k) b (getD (p .sizes) k (token 0)))
+          (sym (start _ (from k h))) (sym (start _ (to k h))) (w .sizes .size k h);
+    }

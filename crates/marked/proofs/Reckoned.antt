@@ -7,11 +7,12 @@ use native.Mathlib.Omega.{arith}
 use borrow.Author.Tests.{eqb-true, eqb-false}
 use lib.Dec.{eqb}
 use lib.ListN.{getD, replicate}
-use Rattle.numbers.specs.Filled.{filled-plan}
+use Rattle.numbers.specs.Filled.{filled-whole}
 use Rattle.numbers.specs.Tab.{tab, length-tab, getD-tab, getD-replicated}
 use Rattle.units.specs.Limits.{MODES, limitOf}
 use Rattle.units.specs.declared.Tick.{Tick}
 use Rattle.units.specs.Ticks.{greaterTick}
+use Rattle.terms.specs.Refusal.{refusalAt}
 use Rattle.terms.specs.declared.refusal.Place.the-variants.{Mode as AtMode, Actor as AtActor, Processor as AtProcessor}
 use Rattle.terms.specs.declared.refusal.Refusal.{Refusal}
 use Rattle.terms.specs.Place.{numberOf}
@@ -37,19 +38,19 @@ use Rattle.planning.specs.declared.Plan.{Plan}
 use Rattle.planning.specs.declared.Answer.{Answer}
 use Rattle.planning.specs.declared.Answer.the-variants.{Planned as IsPlanned, Refused as IsRefused}
 use Rattle.planning.specs.Nothing.{noPart, noTiming, emptyPart, emptyPlan}
-use Rattle.planning.specs.Plan.{refusal, partOf, IsPart, Planned, Planning, refused}
-use Rattle.planning.specs.Steps.{Comes, AnyComes, runningAt, runningsOf, AllReady, Between, ChangeOf, FoundParts, FoundChanges}
-use Rattle.planning.proofs.Told.{judged-refuses, scheduled-refuses}
+use Rattle.planning.specs.Plan.{IsPart, Planned, Planning, refused}
+use Rattle.planning.specs.Steps.{partFrom, Comes, AnyComes, runningAt, runningsOf, AllReady, Between, ChangeOf, FoundParts, FoundChanges}
+use Rattle.planning.proofs.Told.{judged-refuses, scheduled-refuses, scheduled-planned}
 use Rattle.planning.proofs.Running.{all-ready, listed-some}
 use Rattle.planning.proofs.Coming.{any-comes, part-comes, plan-comes}
 
 -- the answer to the mode with number n, by its verdict and by its timing
 abbrev answerBy : ℕ → Verdict → Lateness → Answer
-answerBy n Cyclic t = IsRefused (refusal 6 (AtMode n))
-answerBy n Ends t = IsRefused (refusal 7 (AtMode n))
-answerBy n Unbalanced t = IsRefused (refusal 8 (AtMode n))
-answerBy n (Overloaded p) t = IsRefused (refusal 9 (AtProcessor n (numberOf p)))
-answerBy n Sound (Late a) = IsRefused (refusal 10 (AtActor n (numberOf a)))
+answerBy n Cyclic t = IsRefused (refusalAt 6 (AtMode n))
+answerBy n Ends t = IsRefused (refusalAt 7 (AtMode n))
+answerBy n Unbalanced t = IsRefused (refusalAt 8 (AtMode n))
+answerBy n (Overloaded p) t = IsRefused (refusalAt 9 (AtProcessor n (numberOf p)))
+answerBy n Sound (Late a) = IsRefused (refusalAt 10 (AtActor n (numberOf a)))
 answerBy n Sound OnTime = IsPlanned
 
 -- what comes of a mode with an actor, and of any mode
@@ -57,7 +58,7 @@ abbrev answerIn : Mode → ℕ → Answer
 answerIn m n = answerBy n (judgeOf m .verdict) (scheduleOf m (judgeOf m) .timing)
 
 abbrev partIn : Mode → ModePlan
-partIn m = partOf (judgeOf m) (scheduleOf m (judgeOf m))
+partIn m = partFrom (judgeOf m) (scheduleOf m (judgeOf m))
 
 unfoldable pub answerOf : Mode → ℕ → Answer
 answerOf m n = cond (eqb (m .active) 0) IsPlanned (answerIn m n)
@@ -76,16 +77,7 @@ module _ (m : Mode) (n : ℕ) (proper : ProperMode m) where
       go Unbalanced a e f = judged-refuses n Unbalanced tt (judge-judged m proper) e
       go (Overloaded p) a e f = judged-refuses n (Overloaded p) tt (judge-judged m proper) e
       go Sound (Late a) e f = scheduled-refuses n (judge-judged m proper) e (schedule-scheduled m (judgeOf m) proper (judge-judged m proper) e) f
-      go Sound OnTime e f =
-          record {
-            judgement = judgeOf m;
-            timetable = scheduleOf m (judgeOf m);
-            judged = judge-judged m proper;
-            sound = e;
-            scheduled = schedule-scheduled m (judgeOf m) proper (judge-judged m proper) e;
-            on-time = f;
-            part = refl;
-          }
+      go Sound OnTime e f = scheduled-planned (judge-judged m proper) e (schedule-scheduled m (judgeOf m) proper (judge-judged m proper) e) f
 
   pub any-mode-comes : AnyComes m n (answerOf m n) (partFor m)
   unfolding answerOf partFor
@@ -142,7 +134,7 @@ module _ (t : Table) (proper : ProperTable t) where
 
       made : FoundParts t (partsOf t) MODES
       made =
-          filled-plan MODES (IsPart t) emptyPart noPart (partsOf t) (length-tab MODES _)
+          filled-whole MODES (IsPart t) emptyPart noPart (partsOf t) (length-tab MODES _)
           (λ k h. subst (IsPart t k) (sym (getD-tab MODES (λ k. partFor (modeAt t k)) k noPart h))
           (part-comes t proper k h _ _ (any-mode-comes (modeAt t k) (k + 1) (proper .mode k h)) (passes k h)))
 
@@ -151,7 +143,7 @@ module _ (t : Table) (proper : ProperTable t) where
 
       changes : FoundChanges (runningsOf t (partsOf t)) (changesOf (runningsOf t (partsOf t))) (MODES * MODES)
       changes =
-          filled-plan (MODES * MODES) (ChangeOf (runningsOf t (partsOf t))) noTiming noTiming (changesOf (runningsOf t (partsOf t))) (length-tab (MODES * MODES) _)
+          filled-whole (MODES * MODES) (ChangeOf (runningsOf t (partsOf t))) noTiming noTiming (changesOf (runningsOf t (partsOf t))) (length-tab (MODES * MODES) _)
           (λ n h. subst (ChangeOf (runningsOf t (partsOf t)) n) (sym (getD-tab (MODES * MODES) _ n noTiming h))
           (between _ _ _ _ (ready .ready (n / MODES) (omega arith)) (ready .ready (n % MODES) (omega arith))))
 

@@ -42,7 +42,7 @@ use Rattle.planning.specs.declared.ModePlan.{ModePlan}
 use Rattle.planning.specs.declared.Plan.{Plan}
 use Rattle.planning.specs.Nothing.{noTiming, emptyPart}
 use Rattle.planning.specs.Plan.{partAt, changeAt, Listed, ModePlanned, IsPart, Leads, IsChange, Planned}
-use Rattle.planning.proofs.Told.{judged-sound, scheduled-times}
+use Rattle.planning.proofs.Told.{judgementOf, planned-numbers, planned-judged}
 use Rattle.planning.proofs.Unique.{listed-or-not, leads-or-not}
 
 -- the numbers of a mode, at every place
@@ -135,38 +135,38 @@ sizes-small m ps s l paced small sizes k = go (decLt k (m .count)) (decLt k CHAN
 -- a planned mode
 pub mode-small : (m : Mode) (p : ModePlan) → ProperMode m → ModePlanned m p → SmallPart p
 mode-small m p proper w =
-    let j = w .judgement in
-    let (x, acyclic, n, bears) = judged-sound (w .judged) (w .sound) in
-    let (s, starts, never, times) = scheduled-times (w .scheduled) (w .on-time) in
+    let (ds, ranked, judged) = planned-judged w proper in
+    let x = w .counts in
+    let s = w .begin in
+    let n = w .balanced in
     let pos = iteration-pos m proper x (n .smallest .balances .some) (n .iteration) in
     let few : (i : ℕ) → Active m i → firingsOf m x i .0 ≤ MOST-FIRINGS .0
-    = λ i a. le-trans (le-of-dvd pos (firings-divide m proper x (n .smallest .balances) (j .iteration) (n .iteration) i a)) (n .within) in
-    let starts-small : (i : ℕ) → s i .0 ≤ MOST-START .0 = λ i. omega (arith, starts-within m j proper (w .judged) (w .sound) s starts i) in
-    let firings-small : (i : ℕ) → getD (j .firings) i (firing 0) .0 ≤ MOST-FIRINGS .0
-    = λ i. rw (n .firings) (small-actors (λ (q : Firing). q .0 ≤ MOST-FIRINGS .0) m (firingsOf m x) (firing 0) zero-le few i) in
-    subst SmallPart (sym (w .part))
-    (record {
+    = λ i a. le-trans (le-of-dvd pos (firings-divide m proper x (n .smallest .balances) (p .iteration) (n .iteration) i a)) (n .within) in
+    let starts-small : (i : ℕ) → s i .0 ≤ MOST-START .0 = λ i. omega (arith, starts-within m (judgementOf ds p) proper judged refl s (w .least) i) in
+    let firings-small : (i : ℕ) → getD (p .firings) i (firing 0) .0 ≤ MOST-FIRINGS .0
+    = λ i. rw (w .firings) (small-actors (λ (q : Firing). q .0 ≤ MOST-FIRINGS .0) m (firingsOf m x) (firing 0) zero-le few i) in
+    record {
       source = n .ends .0 .0 .0;
       sink = n .ends .1 .0 .0;
       iteration = n .within;
-      startup = rw (times .startup) (starts-small (j .sink));
-      firings-long = ap length (n .firings) ∙ length-tab ACTORS _;
+      startup = rw (w .startup) (starts-small (p .sink));
+      firings-long = ap length (w .firings) ∙ length-tab ACTORS _;
       firings = firings-small;
-      periods-long = ap length (n .periods) ∙ length-tab ACTORS _;
-      periods = λ i. rw (n .periods)
-          (small-actors (λ (t : Tick). t .0 ≤ ITERATION-LIMIT .0) m (λ i. periodOf (j .iteration) (firingsOf m x i)) (tick 0) zero-le (λ i a. le-trans (div-le-self _ _) (n .within)) i);
-      starts-long = ap length (times .starts) ∙ length-tab ACTORS _;
-      starts = λ i. rw (times .starts) (small-actors (λ (t : Tick). t .0 ≤ MOST-START .0) m s (tick 0) (omega arith) (λ i a. starts-small i) i);
-      sizes-long = times .sizes .long;
-      sizes = sizes-small m (j .periods) s (w .timetable .sizes) (channel-paced m j proper x acyclic n) starts-small (times .sizes);
-      tokens-long = ap length (times .tokens) ∙ length-tab CHANNELS _;
-      tokens = λ k. rw (times .tokens)
-          (small-channels (λ (v : Token). v .0 ≤ MOST-CARRIED .0) m (tokensOn m (j .firings)) (token 0) zero-le
+      periods-long = ap length (w .periods) ∙ length-tab ACTORS _;
+      periods = λ i. rw (w .periods)
+          (small-actors (λ (t : Tick). t .0 ≤ ITERATION-LIMIT .0) m (λ i. periodOf (p .iteration) (firingsOf m x i)) (tick 0) zero-le (λ i a. le-trans (div-le-self _ _) (n .within)) i);
+      starts-long = ap length (w .starts) ∙ length-tab ACTORS _;
+      starts = λ i. rw (w .starts) (small-actors (λ (t : Tick). t .0 ≤ MOST-START .0) m s (tick 0) (omega arith) (λ i a. starts-small i) i);
+      sizes-long = w .sizes .long;
+      sizes = sizes-small m (p .periods) s (p .sizes) (channel-paced m (judgementOf ds p) proper x (n .acyclic) (planned-numbers w ds ranked)) starts-small (w .sizes);
+      tokens-long = ap length (w .tokens) ∙ length-tab CHANNELS _;
+      tokens = λ k. rw (w .tokens)
+          (small-channels (λ (v : Token). v .0 ≤ MOST-CARRIED .0) m (tokensOn m (p .firings)) (token 0) zero-le
           (λ k h.
           let c = proper .channel k h in
           le-trans (sum-most _ (MOST-RATE .0) _ (λ i l. rate-small _ _ (proper .actor _ (c .from) (c .from-active) .phases) (c .production) i))
           (mul-le-mul-right (MOST-RATE .0) (firings-small (channelAt m k .from)))) k);
-    })
+    }
 
 module _ (t : Table) (proper : ProperTable t) where
   pub part-small : (k : ℕ) (p : ModePlan) → k < MODES → IsPart t k p → SmallPart p

@@ -33,9 +33,9 @@ use Rattle.change.proofs.Offsets.{found}
 use Rattle.planning.specs.declared.ModePlan.{ModePlan}
 use Rattle.planning.specs.declared.Outcome.{Outcome}
 use Rattle.planning.specs.Nothing.{noPart, noTiming, emptyPart}
-use Rattle.planning.specs.Plan.{Listed, ModeRefused, partFrom, ModePlanned, IsPart, Planning, refused, planned}
+use Rattle.planning.specs.Plan.{Listed, ModeRefused, ModePlanned, IsPart, Planning, refused, planned}
 use Rattle.planning.specs.Steps.{runningAt, runningsOf, AllReady, Between, ChangeOf, FoundParts, FoundChanges}
-use Rattle.planning.proofs.Told.{judged-refuses, scheduled-refuses}
+use Rattle.planning.proofs.Told.{judged-refuses, scheduled-refuses, scheduled-planned}
 use Rattle.planning.proofs.Unique.{listed-or-not}
 use Rattle.planning.proofs.Running.{all-ready}
 use Rattle.planning.proofs.Coming.{plan-comes}
@@ -46,19 +46,7 @@ mode-decided m n proper = go (judgeOf m .verdict) refl
   where
     timed : (e : judgeOf m .verdict ≡ Sound) (a : Answer) → scheduleOf m (judgeOf m) .timing ≡ a → ((p : ModePlan) × ModePlanned m p) ⊎ ((r : Refusal) × ModeRefused m n r)
     timed e (Late a) f = inr (_, scheduled-refuses n (judge-judged m proper) e (schedule-scheduled m (judgeOf m) proper (judge-judged m proper) e) f)
-    timed e OnTime f =
-        inl (
-          partFrom (judgeOf m) (scheduleOf m (judgeOf m)),
-          record {
-            judgement = judgeOf m;
-            timetable = scheduleOf m (judgeOf m);
-            judged = judge-judged m proper;
-            sound = e;
-            scheduled = schedule-scheduled m (judgeOf m) proper (judge-judged m proper) e;
-            on-time = f;
-            part = refl;
-          },
-        )
+    timed e OnTime f = inl (_, scheduled-planned (judge-judged m proper) e (schedule-scheduled m (judgeOf m) proper (judge-judged m proper) e) f)
 
     go : (v : Verdict) → judgeOf m .verdict ≡ v → ((p : ModePlan) × ModePlanned m p) ⊎ ((r : Refusal) × ModeRefused m n r)
     go Cyclic e = inr (_, judged-refuses n Cyclic tt (judge-judged m proper) e)

@@ -14,7 +14,6 @@ use Rattle.numbers.specs.Bits.{Has, bit, hasb, has-decides, has-or-not, has-bel
 use Rattle.numbers.specs.Decides.{decides-true}
 use Rattle.numbers.specs.Fraction.{AtMost, sum-alike, nothing}
 use Rattle.numbers.specs.Tab.{length-tab, getD-tab, getD-replicated}
-use Rattle.units.specs.Bounds.{MOST-START}
 use Rattle.units.specs.Limits.{MODES, ACTORS, MOST-WCET, LOAD-LIMIT, limitOf}
 use Rattle.units.specs.declared.Tick.{Tick}
 use Rattle.units.specs.declared.Firing.{Firing}
@@ -36,9 +35,8 @@ use Rattle.change.specs.Work.{Fitting}
 use Rattle.change.specs.Running.{askedBy as asked, askedOf, Bearable, Ready}
 use Rattle.planning.specs.declared.ModePlan.{ModePlan}
 use Rattle.planning.specs.Nothing.{noPart}
-use Rattle.planning.specs.Plan.{partFrom as planOf, Listed, ModePlanned, IsPart}
+use Rattle.planning.specs.Plan.{Listed, ModePlanned, IsPart}
 use Rattle.planning.specs.Steps.{noRunning, idleRunning, runningsOf, AllReady, FoundParts, runningOf}
-use Rattle.planning.proofs.Told.{judged-sound, scheduled-times}
 use Rattle.planning.proofs.Bounds.{mode-small, part-small}
 
 -- a mode with an actor is listed
@@ -89,30 +87,26 @@ module _ (m : Mode) (proper : ProperMode m) where
 
   pub mode-ready : (p : ModePlan) → ModePlanned m p → Ready (runningOf m p)
   mode-ready p w =
-      let j = w .judgement in
-      let (x, acyclic, n, bears) = judged-sound (w .judged) (w .sound) in
-      let (s, starts, never, times) = scheduled-times (w .scheduled) (w .on-time) in
+      let x = w .counts in
+      let n = w .balanced in
       let some = n .smallest .balances .some in
-      let period : (i : ℕ) → Active m i → getD (j .periods) i (tick 0) ≡ periodOf (j .iteration) (firingsOf m x i)
-      = λ i a. ap (λ (l : List Tick). getD l i (tick 0)) (n .periods) ∙ at-actor m _ (tick 0) i a in
-      let firings : (i : ℕ) → Active m i → getD (j .firings) i (firing 0) ≡ firingsOf m x i
-      = λ i a. ap (λ (l : List Firing). getD l i (firing 0)) (n .firings) ∙ at-actor m _ (firing 0) i a in
-      let startup : w .timetable .startup .0 ≤ MOST-START .0
-      = subst (λ (p : ModePlan). p .startup .0 ≤ MOST-START .0) (w .part) (mode-small m p proper w .startup) in
-      subst (λ (p : ModePlan). Ready (runningOf m p)) (sym (w .part))
-      (record {
+      let period : (i : ℕ) → Active m i → getD (p .periods) i (tick 0) ≡ periodOf (p .iteration) (firingsOf m x i)
+      = λ i a. ap (λ (l : List Tick). getD l i (tick 0)) (w .periods) ∙ at-actor m _ (tick 0) i a in
+      let firings : (i : ℕ) → Active m i → getD (p .firings) i (firing 0) ≡ firingsOf m x i
+      = λ i a. ap (λ (l : List Firing). getD l i (firing 0)) (w .firings) ∙ at-actor m _ (firing 0) i a in
+      record {
         actor = λ i a. proper .actor i (a .0) (a .1);
         no-actor = proper .no-actor;
         period = λ i a. rw (period i a) (lt-of-lt-of-le (proper .actor i (a .0) (a .1) .some-tick) (period-fits m proper x some (n .iteration) i a));
         whole = λ i a. rw (period i a, firings i a) (mul-comm _ _ ∙ period-whole m x (n .iteration) i a);
-        start = in-time s (j .sink) _ _ never (times .starts) (times .startup);
-        startup = omega (arith, startup);
+        start = in-time (w .begin) (p .sink) _ _ (w .prompt) (w .starts) (w .startup);
+        startup = mode-small m p proper w .startup;
         some-tick = iteration-pos m proper x some (n .iteration);
         iteration = n .within;
-        load = borne x (planOf j (w .timetable)) period bears;
+        load = borne x p period (w .bearable);
         since = refl;
         until = refl;
-      })
+      }
 
 module _ (t : Table) (proper : ProperTable t) where
   pub part-fitting : (k : ℕ) (p : ModePlan) → k < MODES → IsPart t k p → Fitting (modeAt t k .actors) (p .firings) (p .starts)

@@ -1,9 +1,9 @@
 -- A table has one outcome only. Assumes nothing.
 use mathlib.Core.Path.{_≡_, refl, sym, ap, ap₂, subst, subst₂, _∙_}
-use mathlib.Core.List.{List}
+use mathlib.Core.List.{List, []}
 use mathlib.Core.Logic.{⊎-elim}
 use Prim.Native.Nat.{ℕ, _+_, _*_, _/_, _%_, _<_, zero-le}
-use native.Mathlib.Nat.{le-antisymm, not-le-of-lt}
+use native.Mathlib.Nat.{le-antisymm}
 use native.Mathlib.Omega.{arith}
 use native.Mathlib.Decide.{decLt, ℕ-discrete}
 use lib.ListN.{getD}
@@ -14,6 +14,7 @@ use Rattle.numbers.specs.Lowest.{sought}
 use Rattle.units.specs.Limits.{MODES, ACTORS}
 use Rattle.units.specs.declared.Tick.{Tick}
 use Rattle.units.specs.Ticks.{tick}
+use Rattle.units.specs.Firings.{firing}
 use Rattle.period.specs.Period.{periodOf}
 use Rattle.terms.specs.Refusal.{OVERLOAD, LATE, refusalAt}
 use Rattle.terms.specs.declared.refusal.Place.the-variants.{Actor as AtActor, Processor as AtProcessor}
@@ -23,9 +24,10 @@ use Rattle.tables.specs.declared.Mode.{Mode}
 use Rattle.tables.specs.declared.Table.{Table}
 use Rattle.tables.specs.Shape.{modeAt}
 use Rattle.graph.specs.declared.Judgement.{Judgement}
-use Rattle.graph.specs.Balance.{Unbalanced, firingsOf}
+use Rattle.graph.specs.declared.Verdict.the-variants.{Sound}
+use Rattle.graph.specs.Balance.{firingsOf}
 use Rattle.graph.specs.Load.{Overloaded}
-use Rattle.graph.proofs.Unique.{only-unique, of-actors, smallest-same, lengths-same, over-again, judged-unique}
+use Rattle.graph.proofs.Unique.{only-unique, of-actors, smallest-same, lengths-same, over-again}
 use Rattle.schedule.specs.Starts.{Starts, Late}
 use Rattle.schedule.specs.Scheduled.{Scheduled}
 use Rattle.schedule.proofs.Unique.{starts-unique, scheduled-unique}
@@ -35,8 +37,9 @@ use Rattle.planning.specs.declared.Plan.{Plan}
 use Rattle.planning.specs.declared.Answer.the-variants.{Refused as IsRefused, Planned as IsPlanned}
 use Rattle.planning.specs.declared.Outcome.{Outcome}
 use Rattle.planning.specs.Nothing.{noPart, noTiming, emptyPlan}
-use Rattle.planning.specs.Plan.{changeAt, Listed, periodsOf, Balanced, ModeRefused, by-6, by-7, by-8, by-9, by-10, partFrom, ModePlanned, IsPart, timesOf, Leads, IsChange, Planned, Planning, refused, planned}
-use Rattle.planning.proofs.Told.{judged-sound, scheduled-times, numbers-balanced}
+use Rattle.planning.specs.Plan.{changeAt, Listed, periodsOf, Balanced, ModeRefused, by-6, by-7, by-8, by-9, by-10, ModePlanned, IsPart, timesOf, Leads, IsChange, Planned, Planning, refused, planned}
+use Rattle.planning.specs.Steps.{partFrom}
+use Rattle.planning.proofs.Told.{unbalanced-not, judgementOf, timetableOf, planned-scheduled}
 
 module _ {m : Mode} where
   -- a mode is reckoned in one way only
@@ -54,9 +57,6 @@ module _ {m : Mode} where
     late-same {b} {c} d e i =
         let same : b ≡ c = starts-unique m (periodsOf m y g) (subst (λ (ps : List Tick). Starts m ps b) periods-same d) e in
         subst₂ (λ (b : ℕ → Tick) (t : ℕ). Late m b t i) same (only-unique _ (p .ends .1) (q .ends .1))
-
-  unbalanced-not : {s t : ℕ} {x : ℕ → ℕ} {h : Tick} → Unbalanced m → Balanced m s t x h → ⊥
-  unbalanced-not u p = not-le-of-lt (u _ _ (p .smallest .balances) (p .iteration)) (p .within)
 
   -- a mode has one refusal, or one part, and not both
   pub refusal-unique : {n : ℕ} {r s : Refusal} → ModeRefused m n r → ModeRefused m n s → r ≡ s
@@ -91,25 +91,29 @@ module _ {m : Mode} where
       (le-antisymm (l .least _ (late-same q p c b _ (k .holds))) (k .least _ (late-same p q b c _ (l .holds))))
 
   pub part-unique : {p q : ModePlan} → ModePlanned m p → ModePlanned m q → p ≡ q
-  part-unique p q =
-      let same = judged-unique m (q .judged) (p .judged) in
-      p .part
-      ∙ ap₂ partFrom (sym same) (scheduled-unique m _ (p .scheduled) (subst (λ (j : Judgement). Scheduled m j (q .timetable)) same (q .scheduled)))
-      ∙ sym (q .part)
+  part-unique {p} {q} a b =
+      let n = a .balanced in
+      let k = b .balanced in
+      let source : p .source ≡ q .source = only-unique _ (n .ends .0) (k .ends .0) in
+      let sink : p .sink ≡ q .sink = only-unique _ (n .ends .1) (k .ends .1) in
+      let iteration : p .iteration ≡ q .iteration = lengths-same m (a .counts) (b .counts) (n .smallest) (k .smallest) (n .iteration) (k .iteration) in
+      let firings : p .firings ≡ q .firings
+      = a .firings
+      ∙ of-actors m (firingsOf m (a .counts)) (firingsOf m (b .counts)) (firing 0)
+      (λ i h. ap (λ (n : ℕ). firingsOf m (λ (j : ℕ). n) i) (smallest-same m (a .counts) (b .counts) (n .smallest) (k .smallest) i h))
+      ∙ sym (b .firings) in
+      let periods : p .periods ≡ q .periods = a .periods ∙ periods-same n k ∙ sym (b .periods) in
+      let judgement : judgementOf [] p ≡ judgementOf [] q
+      = λ i. record { verdict = Sound; source = source i; sink = sink i; iteration = iteration i; depths = []; firings = firings i; periods = periods i } in
+      ap₂ partFrom judgement
+      (scheduled-unique m _ (subst (λ (j : Judgement). Scheduled m j (timetableOf p)) judgement (planned-scheduled a [])) (planned-scheduled b []))
 
   pub planned-refused : {p : ModePlan} {n : ℕ} {r : Refusal} → ModePlanned m p → ModeRefused m n r → ⊥
-  planned-refused {n = n} w =
-      let (x, acyclic, numbers, bears) = judged-sound (w .judged) (w .sound) in
-      let (b, starts, prompt, times) = scheduled-times (w .scheduled) (w .on-time) in
-      go x b (numbers-balanced acyclic numbers) bears (subst (λ (ps : List Tick). Starts m ps b) (numbers .periods) starts) prompt
-    where
-      go : {s t : ℕ} {h : Tick} {r : Refusal} (x : ℕ → ℕ) (b : ℕ → Tick) → Balanced m s t x h → ((i : ℕ) → Overloaded m x h i → ⊥) → Starts m (periodsOf m x h) b
-          → ((i : ℕ) → Late m b t i → ⊥) → ModeRefused m n r → ⊥
-      go x b p f d f′ (by-6 c) = p .acyclic c
-      go x b p f d f′ (by-7 k e) = e _ _ (p .ends)
-      go x b p f d f′ (by-8 k e u) = unbalanced-not u p
-      go x b p f d f′ (by-9 q o) = f _ (over-same q p _ (o .holds))
-      go x b p f d f′ (by-10 q g c l) = f′ _ (late-same q p c d _ (l .holds))
+  planned-refused w (by-6 c) = w .balanced .acyclic c
+  planned-refused w (by-7 k e) = e _ _ (w .balanced .ends)
+  planned-refused w (by-8 k e u) = unbalanced-not u (w .balanced)
+  planned-refused w (by-9 q o) = w .bearable _ (over-same q (w .balanced) _ (o .holds))
+  planned-refused w (by-10 q g c l) = w .prompt _ (late-same q (w .balanced) c (subst (λ (ps : List Tick). Starts m ps (w .begin)) (w .periods) (w .least)) _ (l .holds))
 
 module _ (t : Table) where
   -- a mode is listed or not

@@ -6,6 +6,8 @@ use lib.ListN.{length, getD}
 use Rattle.numbers.specs.Extreme.{Least}
 use Rattle.units.specs.declared.Tick.{Tick}
 use Rattle.units.specs.Ticks.{tick}
+use Rattle.units.specs.Firings.{firing}
+use Rattle.units.specs.Tokens.{token}
 use Rattle.units.specs.Limits.{MODES, ITERATION-LIMIT}
 use Rattle.period.specs.Period.{periodOf}
 use Rattle.terms.specs.Refusal.{CYCLE, NO-ENDS, NO-BALANCE, OVERLOAD, LATE, refusalAt}
@@ -15,17 +17,13 @@ use Rattle.terms.specs.Place.{numberOf}
 use Rattle.tables.specs.declared.Mode.{Mode}
 use Rattle.tables.specs.declared.Table.{Table}
 use Rattle.tables.specs.Shape.{modeAt, Active}
-use Rattle.graph.specs.declared.Verdict.the-variants.{Sound}
-use Rattle.graph.specs.declared.Judgement.{Judgement}
 use Rattle.graph.specs.Order.{Cyclic}
 use Rattle.graph.specs.Ends.{Ends, NoEnds}
 use Rattle.graph.specs.Balance.{Smallest, Iteration, Unbalanced, firingsOf}
 use Rattle.graph.specs.Load.{Overloaded}
-use Rattle.graph.specs.Judged.{Judged, ofActors}
-use Rattle.schedule.specs.declared.Timing.the-variants.{OnTime}
-use Rattle.schedule.specs.declared.Timetable.{Timetable}
-use Rattle.schedule.specs.Starts.{Starts, Late}
-use Rattle.schedule.specs.Scheduled.{Scheduled}
+use Rattle.graph.specs.Judged.{ofActors}
+use Rattle.schedule.specs.Starts.{Starts, startupOf, Late}
+use Rattle.schedule.specs.Scheduled.{Sizes, ofChannels, tokensOn}
 use Rattle.change.specs.declared.Timing.{Timing}
 use Rattle.change.specs.Change.{ModeTimes, Changes}
 use Rattle.planning.specs.declared.ModePlan.{ModePlan}
@@ -68,30 +66,20 @@ pub data ModeRefused (m : Mode) (n : ℕ) : Refusal → Type 0 where
   by-10 : {s t a : ℕ} {x : ℕ → ℕ} {h : Tick} {b : ℕ → Tick} → Balanced m s t x h → ((p : ℕ) → Overloaded m x h p → ⊥) → Starts m (periodsOf m x h) b
       → Least (Late m b t) a → ModeRefused m n (refusalAt LATE (AtActor n (numberOf a)))
 
--- the numbers of a mode that is judged and scheduled
-abbrev pub partFrom : Judgement → Timetable → ModePlan
-partFrom j s =
-    record {
-      source = j .source;
-      sink = j .sink;
-      iteration = j .iteration;
-      startup = s .startup;
-      firings = j .firings;
-      periods = j .periods;
-      starts = s .starts;
-      sizes = s .sizes;
-      tokens = s .tokens;
-    }
-
--- A mode is not refused, and p is what is planned of it.
+-- No refusal applies to a mode, and p is what is planned of it. Of an actor that is not active, and of a channel that is not there, all is 0.
 pub record ModePlanned (m : Mode) (p : ModePlan) : Type 0 where
-  pub judgement : Judgement
-  pub timetable : Timetable
-  pub judged : Judged m judgement
-  pub sound : judgement .verdict ≡ Sound
-  pub scheduled : Scheduled m judgement timetable
-  pub on-time : timetable .timing ≡ OnTime
-  pub part : p ≡ partFrom judgement timetable
+  pub counts : ℕ → ℕ
+  pub balanced : Balanced m (p .source) (p .sink) counts (p .iteration)
+  pub bearable : (q : ℕ) → Overloaded m counts (p .iteration) q → ⊥
+  pub firings : p .firings ≡ ofActors m (firingsOf m counts) (firing 0)
+  pub periods : p .periods ≡ periodsOf m counts (p .iteration)
+  pub begin : ℕ → Tick
+  pub least : Starts m (p .periods) begin
+  pub prompt : (i : ℕ) → Late m begin (p .sink) i → ⊥
+  pub starts : p .starts ≡ ofActors m begin (tick 0)
+  pub startup : p .startup ≡ startupOf begin (p .sink)
+  pub sizes : Sizes m (p .periods) begin (p .sizes)
+  pub tokens : p .tokens ≡ ofChannels m (tokensOn m (p .firings)) (token 0)
 
 -- what is planned of mode k of a table: nothing where it is not listed
 pub record IsPart (t : Table) (k : ℕ) (p : ModePlan) : Type 0 where

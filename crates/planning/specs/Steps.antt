@@ -15,11 +15,28 @@ use Rattle.change.specs.declared.Running.{Running}
 use Rattle.change.specs.declared.Timing.{Timing}
 use Rattle.change.specs.Work.{preparedOf}
 use Rattle.change.specs.Running.{Ready, Changes}
+use Rattle.graph.specs.declared.Judgement.{Judgement}
+use Rattle.schedule.specs.declared.Timetable.{Timetable}
 use Rattle.planning.specs.declared.ModePlan.{ModePlan}
 use Rattle.planning.specs.declared.Answer.{Answer}
 use Rattle.planning.specs.declared.Answer.the-variants.{Planned as IsPlanned, Refused as IsRefused}
 use Rattle.planning.specs.Nothing.{noPart, noTiming, emptyPart}
 use Rattle.planning.specs.Plan.{Listed, ModeRefused, ModePlanned, IsPart}
+
+-- the numbers of a mode that is judged and scheduled
+abbrev pub partFrom : Judgement → Timetable → ModePlan
+partFrom j s =
+    record {
+      source = j .source;
+      sink = j .sink;
+      iteration = j .iteration;
+      startup = s .startup;
+      firings = j .firings;
+      periods = j .periods;
+      starts = s .starts;
+      sizes = s .sizes;
+      tokens = s .tokens;
+    }
 
 -- the parts of the modes below k are found
 abbrev pub FoundParts : Table → List ModePlan → ℕ → Type 0

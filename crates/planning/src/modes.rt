@@ -30,8 +30,7 @@ ghost use Rattle.graph.specs.declared.Verdict.the-variants.{Sound};
 ghost use Rattle.graph.specs.Judged.{Judged};
 ghost use Rattle.planning.specs.declared.Answer.the-variants.{Refused};
 ghost use Rattle.planning.specs.Nothing.{emptyPart};
-ghost use Rattle.planning.specs.Plan.{partFrom};
-ghost use Rattle.planning.specs.Steps.{Comes, AnyComes, AllCome};
+ghost use Rattle.planning.specs.Steps.{partFrom, Comes, AnyComes, AllCome};
 
 // What comes of a mode: its answer, and its part.
 pub(crate) struct Piece {

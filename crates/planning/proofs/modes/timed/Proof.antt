@@ -3,8 +3,9 @@ use borrow.Author.Needs.{needs}
 use mathlib.Core.Path.{sym, subst}
 use native.Mathlib.Omega.{arith}
 use Rattle.planning.specs.declared.modes.Piece.{Piece}
+use Rattle.planning.specs.Plan.{ModePlanned}
 use Rattle.planning.specs.Steps.{Comes}
-use Rattle.planning.proofs.Told.{scheduled-refuses, late-below}
+use Rattle.planning.proofs.Told.{scheduled-refuses, late-below, scheduled-planned}
 use Rattle.planning.proofs.modes.timed.Statement.{statement}
 use Rattle.planning.proofs.modes.timed.Tie as tie
 
@@ -18,15 +19,8 @@ returns c =
 returns-2 : tie.Need-returns-2
 returns-2 c =
     let s = c .before .before .before in
-    record {
-      judgement = s .before .args .judged;
-      timetable = s .schedule .result;
-      judged = s .before .pre .1;
-      sound = s .before .pre .2;
-      scheduled = s .schedule .ensures;
-      on-time = c .before .enum-told .given .1;
-      part = c .part-of .ensures;
-    }
+    subst (ModePlanned (s .before .args .mode)) (sym (c .part-of .ensures))
+    (scheduled-planned (s .before .pre .1) (s .before .pre .2) (s .schedule .ensures) (c .before .enum-told .given .1))
 
 pub timed-spec : {M : Type 1} → statement M
 timed-spec =
