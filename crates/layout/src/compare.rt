@@ -1,7 +1,7 @@
 // A buffer is compared with what would be written, part by part.
+use crate::store;
 use crate::store::CHANGES_WORDS;
 use crate::store::MODE_WORDS;
-use crate::store;
 use planning::ModePlan;
 use planning::Plan;
 use tables::Mode;

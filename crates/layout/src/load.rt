@@ -1,8 +1,8 @@
 // A table is read from words: each function is lent the part that it reads.
-use crate::store::ACTORS_AT;
 use crate::store::ACTOR_WORDS;
-use crate::store::CHANNELS_AT;
+use crate::store::ACTORS_AT;
 use crate::store::CHANNEL_WORDS;
+use crate::store::CHANNELS_AT;
 use crate::store::CONSUMPTION_AT;
 use crate::store::MODE_WORDS;
 use crate::store::PRODUCTION_AT;

@@ -12,18 +12,7 @@ use Rattle.planning.specs.declared.Plan.{Plan}
 
 -- past the end of an array of parts
 abbrev pub noPart : ModePlan
-noPart =
-    record {
-      source = 0;
-      sink = 0;
-      iteration = tick 0;
-      startup = tick 0;
-      firings = [];
-      periods = [];
-      starts = [];
-      sizes = [];
-      tokens = [];
-    }
+noPart = record { source = 0; sink = 0; iteration = tick 0; startup = tick 0; firings = []; periods = []; starts = []; sizes = []; tokens = [] }
 
 -- for a mode that is not listed
 abbrev pub emptyPart : ModePlan

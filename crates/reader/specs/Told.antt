@@ -60,13 +60,7 @@ pub data Of : List ℕ → Outcome → Type 0 where
 
 -- a channel in memory: its rates are one for each phase, with 0 behind the last
 abbrev pub channelOf : ChannelRow → Channel
-channelOf r =
-    record {
-      from = placeOf (r .from);
-      to = placeOf (r .to);
-      production = padded PHASES 0 (r .production);
-      consumption = padded PHASES 0 (r .consumption);
-    }
+channelOf r = record { from = placeOf (r .from); to = placeOf (r .to); production = padded PHASES 0 (r .production); consumption = padded PHASES 0 (r .consumption) }
 
 -- a table with one row more
 abbrev pub listing : Row → Table → Table
