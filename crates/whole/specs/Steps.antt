@@ -13,8 +13,9 @@ use Rattle.tables.specs.declared.Table.{Table}
 use Rattle.tables.specs.Shape.{modeAt, emptyMode}
 use Rattle.change.specs.declared.Running.{Running}
 use Rattle.change.specs.declared.Timing.{Timing}
+use Rattle.change.specs.Change.{Changes}
 use Rattle.change.specs.Work.{preparedOf}
-use Rattle.change.specs.Running.{Ready, Changes}
+use Rattle.change.specs.Running.{timesIn, Ready}
 use Rattle.whole.specs.declared.Part.{Part}
 use Rattle.whole.specs.declared.Answer.{Answer}
 use Rattle.whole.specs.declared.Answer.the-variants.{Planned as IsPlanned, Refused as IsRefused}
@@ -77,7 +78,7 @@ pub record AllReady (rs : List Running) : Type 0 where
 -- the change from one running mode at place k to another at place l, where both have an actor; or none
 abbrev pub Between : Running → Running → ℕ → ℕ → Timing → Type 0
 Between old new k l c =
-    ((old .active ≡ 0 → ⊥) → (new .active ≡ 0 → ⊥) → (k ≡ l → ⊥) → Changes old new c)
+    ((old .active ≡ 0 → ⊥) → (new .active ≡ 0 → ⊥) → (k ≡ l → ⊥) → Changes (timesIn old) (timesIn new) c)
     × (((old .active ≡ 0 → ⊥) × (new .active ≡ 0 → ⊥) × (k ≡ l → ⊥) → ⊥) → c ≡ noTiming)
 
 -- at place n of all pairs
