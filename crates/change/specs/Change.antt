@@ -18,12 +18,13 @@ use Rattle.tables.specs.Shape.{Active}
 use Rattle.graph.specs.Load.{isOn, askedOf}
 use Rattle.change.specs.declared.Timing.{Timing}
 
--- a mode and what is planned of it: its actors' periods and starts, its iteration, and the end of its start-up
+-- a mode and what is planned of it: its actors' periods and starts, its iteration, the tick set for the sink's first firing, and the end of its start-up
 pub record ModeTimes : Type 0 where
   pub mode : Mode
   pub iteration : Tick
   pub periods : List Tick
   pub starts : List Tick
+  pub sinkStart : Tick
   pub startup : Tick
 
 -- an actor's period, and its start
@@ -57,9 +58,9 @@ Bears limit old new d = (k p : ℕ) → d ≤ k → k ≤ old .startup .0 → 1 
 abbrev pub Offset : (ℕ → Fraction) → ModeTimes → ModeTimes → Tick → Tick → Type 0
 Offset limit old new x d = Least (λ n. (x .0 ≤ n) × (n ≤ old .startup .0) × Bears limit old new n) (d .0)
 
--- Worst delay: the offset, the start-up of the new mode, and an iteration of the old one less a tick.
+-- Worst delay: the offset, the sink's start in the new mode, and an iteration of the old one less a tick.
 abbrev pub worstOf : ModeTimes → ModeTimes → Tick → Tick
-worstOf old new d = tick (d .0 + new .startup .0 + old .iteration .0 - 1)
+worstOf old new d = tick (d .0 + new .sinkStart .0 + old .iteration .0 - 1)
 
 pub record Changes (old new : ModeTimes) (r : Timing) : Type 0 where
   pub overlap : Overlap old new (r .overlap)

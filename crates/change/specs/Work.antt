@@ -58,8 +58,8 @@ abbrev pub untilsOf : List Actor → List Firing → List Tick → List Tick
 untilsOf actors firings starts = tab ACTORS (λ i. workBetween actors firings starts (actorIn actors i .processor) (tick 0) (tickAt starts i))
 
 -- a mode with these numbers, as it runs
-abbrev pub preparedOf : ℕ → List Actor → Tick → List Firing → List Tick → List Tick → Tick → Running
-preparedOf active actors iteration firings periods starts startup =
+abbrev pub preparedOf : ℕ → List Actor → Tick → List Firing → List Tick → List Tick → Tick → Tick → Running
+preparedOf active actors iteration firings periods starts sinkStart startup =
     record {
       active = active;
       actors = actors;
@@ -67,6 +67,7 @@ preparedOf active actors iteration firings periods starts startup =
       firings = firings;
       periods = periods;
       starts = starts;
+      «sink_start» = sinkStart;
       startup = startup;
       since = sincesOf actors firings starts startup;
       until = untilsOf actors firings starts;

@@ -128,7 +128,7 @@ module _ (t : Table) (w : Whole) (proper : ProperTable t) (planned : Planned t w
   startup-is m h = ap (λ (s : Tick). s .0) (runs m h .sink)
 
   pub worst-is : (o l : ℕ) → T (isListed t o) → T (isListed t l) → l ≢ o → worst (planOf t w) o l ≡ changeAt w (o - 1) (l - 1) .worst .0
-  worst-is o l ho hl other = omega (arith, startup-is l hl, ap (λ (s : Tick). s .0) (changes o l ho hl other .worst))
+  worst-is o l ho hl other = ap (λ (s : Tick). s .0) (sym (changes o l ho hl other .worst))
 
   -- start-ups, iterations and offsets are short
   pub startup-short : (m : ℕ) → T (isListed t m) → startup (planOf t w) m ≤ MOST-START .0

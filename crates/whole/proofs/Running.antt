@@ -107,6 +107,7 @@ module _ (m : Mode) (proper : ProperMode m) where
         period = λ i a. rw (period i a) (lt-of-lt-of-le (proper .actor i (a .0) (a .1) .some-tick) (period-fits m proper x some (n .iteration) i a));
         whole = λ i a. rw (period i a, firings i a) (mul-comm _ _ ∙ period-whole m x (n .iteration) i a);
         start = in-time s (j .sink) _ _ never (times .starts) (times .startup);
+        sink-start = subst (λ (p : Part). getD (p .starts) (p .sink) (tick 0) .0 ≤ MOST-START .0) (w .part) (mode-small m p proper w .starts (p .sink));
         startup = omega (arith, startup);
         some-tick = iteration-pos m proper x some (n .iteration);
         iteration = n .within;

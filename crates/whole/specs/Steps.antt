@@ -44,7 +44,7 @@ AllCome t (IsRefused r) ps =
 
 -- a planned mode as it is kept to run
 abbrev pub runningOf : Mode → Part → Running
-runningOf m p = preparedOf (m .active) (m .actors) (p .iteration) (p .firings) (p .periods) (p .starts) (p .startup)
+runningOf m p = preparedOf (m .active) (m .actors) (p .iteration) (p .firings) (p .periods) (p .starts) (getD (p .starts) (p .sink) (tick 0)) (p .startup)
 
 abbrev pub noRunning : Running
 noRunning =
@@ -55,6 +55,7 @@ noRunning =
       firings = [];
       periods = [];
       starts = [];
+      «sink_start» = tick 0;
       startup = tick 0;
       since = [];
       until = [];

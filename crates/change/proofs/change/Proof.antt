@@ -21,12 +21,12 @@ times c =
 plus-requires : tie.Need-plus-requires
 plus-requires c κs =
     let p = c .before .before .before .pre in
-    omega (arith, times c .1 .holds .1, p .0 .startup, p .1 .startup)
+    omega (arith, times c .1 .holds .1, p .0 .startup, p .1 .sink-start)
 
 plus-requires-2 : tie.Need-plus-requires-2
 plus-requires-2 c κs =
     let p = c .before .before .before .before .pre in
-    omega (arith, times (c .before) .1 .holds .1, p .0 .startup, p .1 .startup, p .0 .iteration, ap (λ (t : Tick). t .0) (c .plus .ensures))
+    omega (arith, times (c .before) .1 .holds .1, p .0 .startup, p .1 .sink-start, p .0 .iteration, ap (λ (t : Tick). t .0) (c .plus .ensures))
 
 returns : tie.Need-returns
 returns c =
