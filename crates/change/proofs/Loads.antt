@@ -1,5 +1,5 @@
 -- The work of a mode between two ticks, and what it asks of a processor as a part of an iteration. Assumes nothing.
-use mathlib.Core.Path.{_≡_, ap, subst, _∙_}
+use mathlib.Core.Path.{_≡_, ap, _∙_}
 use mathlib.Core.Bool.{Bool, true, false, cond, _&&_}
 use mathlib.Core.List.{List}
 use mathlib.Core.Logic.{_⊎_, inl, inr, ⊎-elim, _↔_}
@@ -7,11 +7,11 @@ use Prim.Native.Nat.{ℕ, zero, suc, _+_, _*_, _^_, _≤_, _<_, zero-le}
 use native.Mathlib.Nat.{le-antisymm, le-refl, mul-le-mul}
 use native.Mathlib.Omega.{arith}
 use native.Mathlib.Decide.{decLe}
-use borrow.Author.Tests.{ne-eqb}
 use lib.Dec.{T, eqb, leb}
 use Rattle.numbers.specs.Bits.{bit, Has, hasb, has-or-not, has-decides}
 use Rattle.numbers.specs.Decides.{Decides, decides-unique, decides-and, decides-eqb, decides-leb, decides-true, decides-false}
 use Rattle.numbers.specs.Fraction.{Proper, Same, sum-proper, sum-common, nothing}
+use Rattle.numbers.specs.declared.fraction.Fraction.{Fraction}
 use Rattle.numbers.specs.Lowest.{FirstPasses, NonePasses, sought}
 use Rattle.numbers.specs.Sum.{sum, sum-le, sum-most}
 use Rattle.units.specs.Bounds.{MOST-FIRINGS}
@@ -19,25 +19,27 @@ use Rattle.units.specs.Limits.{ACTORS, MOST-WCET}
 use Rattle.units.specs.Ticks.{tick}
 use Rattle.units.specs.declared.Tick.{Tick}
 use Rattle.units.specs.declared.Firing.{Firing}
-use Rattle.period.specs.Period.{workOf, partOf}
+use Rattle.period.specs.Period.{workOf, shareOf}
 use Rattle.tables.specs.declared.Actor.{Actor}
+use Rattle.graph.specs.Load.{isOn, askedBy, askedOf}
 use Rattle.change.specs.declared.Running.{Running}
-use Rattle.change.specs.Work.{Fitting, actorAt, firingsAt, tickAt, between, countedOf, workBetween}
-use Rattle.change.specs.Running.{actorIn, startOf, askedBy, isOn, askedOf, Ready}
+use Rattle.change.specs.Work.{Fitting, actorIn, firingsAt, tickAt, between, countedOf, workBetween}
+use Rattle.change.specs.Change.{periodIn, startOf}
+use Rattle.change.specs.Running.{timesIn, Ready}
 
 -- works of actors within their ranges are summed within 64 bits
 pub work-fits : (actors : List Actor) (firings : List Firing) (starts : List Tick) → Fitting actors firings starts → (p : ℕ) (a b : Tick) (k : ℕ) → k < ACTORS
-    → {v w : Tick} → v ≡ tick (sum (λ i. countedOf (actorAt actors i) (firingsAt firings i) (tickAt starts i) p a b .0) k)
-    → w ≡ countedOf (actorAt actors k) (firingsAt firings k) (tickAt starts k) p a b → v .0 + w .0 < 2 ^ 64
+    → {v w : Tick} → v ≡ tick (sum (λ i. countedOf (actorIn actors i) (firingsAt firings i) (tickAt starts i) p a b .0) k)
+    → w ≡ countedOf (actorIn actors k) (firingsAt firings k) (tickAt starts k) p a b → v .0 + w .0 < 2 ^ 64
 work-fits actors firings starts fits p a b k l e f =
-    rw (e, f) (omega (arith, sum-most (λ i. countedOf (actorAt actors i) (firingsAt firings i) (tickAt starts i) p a b .0) (MOST-FIRINGS .0 * MOST-WCET .0) k (λ i h. most i (omega arith)), most k l))
+    rw (e, f) (omega (arith, sum-most (λ i. countedOf (actorIn actors i) (firingsAt firings i) (tickAt starts i) p a b .0) (MOST-FIRINGS .0 * MOST-WCET .0) k (λ i h. most i (omega arith)), most k l))
   where
     go : (x : Bool) (w : Tick) → w .0 ≤ MOST-FIRINGS .0 * MOST-WCET .0 → cond x w (tick 0) .0 ≤ MOST-FIRINGS .0 * MOST-WCET .0
     go true w h = h
     go false w h = zero-le
 
-    most : (i : ℕ) → i < ACTORS → countedOf (actorAt actors i) (firingsAt firings i) (tickAt starts i) p a b .0 ≤ MOST-FIRINGS .0 * MOST-WCET .0
-    most i h = go (between (actorAt actors i) (tickAt starts i) p a b) (workOf (actorAt actors i .wcet) (firingsAt firings i)) (omega (arith, mul-le-mul (fits .few i h) (fits .wcet i h)))
+    most : (i : ℕ) → i < ACTORS → countedOf (actorIn actors i) (firingsAt firings i) (tickAt starts i) p a b .0 ≤ MOST-FIRINGS .0 * MOST-WCET .0
+    most i h = go (between (actorIn actors i) (tickAt starts i) p a b) (workOf (actorIn actors i .wcet) (firingsAt firings i)) (omega (arith, mul-le-mul (fits .few i h) (fits .wcet i h)))
 
 -- the work of the actors on processor p that start from a to b
 abbrev pub workIn : Running → ℕ → ℕ → ℕ → ℕ
@@ -45,22 +47,22 @@ workIn r p a b = workBetween (r .actors) (r .firings) (r .starts) p (tick a) (ti
 
 -- actor i is on processor p and starts from a to b
 abbrev pub Between : Running → ℕ → ℕ → ℕ → ℕ → Type 0
-Between r p a b i = (actorIn r i .processor ≡ p) × ((a ≤ startOf r i) × (startOf r i ≤ b))
+Between r p a b i = (actorIn (r .actors) i .processor ≡ p) × ((a ≤ startOf (timesIn r) i) × (startOf (timesIn r) i ≤ b))
 
 module _ (r : Running) (p : ℕ) where
   abbrev test : ℕ → ℕ → ℕ → Bool
-  test a b i = between (actorIn r i) (tickAt (r .starts) i) p (tick a) (tick b)
+  test a b i = between (actorIn (r .actors) i) (tickAt (r .starts) i) p (tick a) (tick b)
 
   abbrev work : ℕ → Tick
-  work i = workOf (actorIn r i .wcet) (firingsAt (r .firings) i)
+  work i = workOf (actorIn (r .actors) i .wcet) (firingsAt (r .firings) i)
 
   abbrev counted : ℕ → ℕ → ℕ → ℕ
   counted a b i = cond (test a b i) (work i) (tick 0) .0
 
-  pub between-is : (a b i : ℕ) → Decides (Between r p a b i) (between (actorIn r i) (tickAt (r .starts) i) p (tick a) (tick b))
+  pub between-is : (a b i : ℕ) → Decides (Between r p a b i) (between (actorIn (r .actors) i) (tickAt (r .starts) i) p (tick a) (tick b))
   between-is a b i =
-      decides-and (eqb (actorIn r i .processor) p) (leb a (startOf r i) && leb (startOf r i) b) (decides-eqb _ _ ((λ e. e), (λ e. e)))
-      (decides-and (leb a (startOf r i)) (leb (startOf r i) b) (decides-leb _ _) (decides-leb _ _))
+      decides-and (eqb (actorIn (r .actors) i .processor) p) (leb a (startOf (timesIn r) i) && leb (startOf (timesIn r) i) b) (decides-eqb _ _ ((λ e. e), (λ e. e)))
+      (decides-and (leb a (startOf (timesIn r) i)) (leb (startOf (timesIn r) i) b) (decides-leb _ _) (decides-leb _ _))
 
   -- fewer actors, no more work
   pub work-within : (a b c d : ℕ) → ((i : ℕ) → i < ACTORS → Between r p a b i → Between r p c d i) → workIn r p a b ≤ workIn r p c d
@@ -77,7 +79,7 @@ module _ (r : Running) (p : ℕ) where
   work-same a b c d h = le-antisymm (work-within a b c d (λ i l. h i l .0)) (work-within c d a b (λ i l. h i l .1))
 
   -- none that works, no work
-  pub work-none : (a b : ℕ) → ((i : ℕ) → i < ACTORS → Between r p a b i → workOf (actorIn r i .wcet) (firingsAt (r .firings) i) .0 ≡ 0) → workIn r p a b ≡ 0
+  pub work-none : (a b : ℕ) → ((i : ℕ) → i < ACTORS → Between r p a b i → workOf (actorIn (r .actors) i .wcet) (firingsAt (r .firings) i) .0 ≡ 0) → workIn r p a b ≡ 0
   work-none a b h =
       omega (arith, sum-most (counted a b) 0 ACTORS (λ i l. go (test a b i) (work i) (λ t. h i l (between-is a b i .0 t))))
     where
@@ -87,20 +89,20 @@ module _ (r : Running) (p : ℕ) where
 
   -- an actor that starts at t, or none
   abbrev At : ℕ → ℕ → Type 0
-  At t i = (actorIn r i .processor ≡ p) × (startOf r i ≡ t)
+  At t i = (actorIn (r .actors) i .processor ≡ p) × (startOf (timesIn r) i ≡ t)
 
   abbrev Sought : ℕ → Type 0
   Sought t = ((i : ℕ) × (i < ACTORS) × At t i) ⊎ ((i : ℕ) → i < ACTORS → At t i → ⊥)
 
   abbrev starts : ℕ → ℕ → Bool
-  starts t i = eqb (actorIn r i .processor) p && eqb (startOf r i) t
+  starts t i = eqb (actorIn (r .actors) i .processor) p && eqb (startOf (timesIn r) i) t
 
   at : (t : ℕ) → Sought t
   at t = go (sought (starts t) ACTORS 0)
     where
       is : (i : ℕ) → Decides (At t i) (starts t i)
       is i =
-          decides-and (eqb (actorIn r i .processor) p) (eqb (startOf r i) t) (decides-eqb _ _ ((λ e. e), (λ e. e)))
+          decides-and (eqb (actorIn (r .actors) i .processor) p) (eqb (startOf (timesIn r) i) t) (decides-eqb _ _ ((λ e. e), (λ e. e)))
           (decides-eqb _ _ ((λ e. e), (λ e. e)))
 
       go : ((i : ℕ) × FirstPasses (starts t) ACTORS 0 i) ⊎ NonePasses (starts t) ACTORS 0 → Sought t
@@ -109,7 +111,7 @@ module _ (r : Running) (p : ℕ) where
 
   -- the work from a on is that from the first start on
   abbrev pub FromFirst : ℕ → ℕ → Type 0
-  FromFirst a b = (workIn r p a b ≡ 0) ⊎ ((i : ℕ) × (i < ACTORS) × Between r p a b i × (workIn r p a b ≡ workIn r p (startOf r i) b))
+  FromFirst a b = (workIn r p a b ≡ 0) ⊎ ((i : ℕ) × (i < ACTORS) × Between r p a b i × (workIn r p a b ≡ workIn r p (startOf (timesIn r) i) b))
 
   pub work-first : (n a b : ℕ) → b < a + n → FromFirst a b
   work-first zero a b h = inl (work-none a b (λ i l w. absurd (omega (arith, w .1 .0, w .1 .1))))
@@ -124,14 +126,14 @@ module _ (r : Running) (p : ℕ) where
       go (yes f) (inr none) t =
           let e : workIn r p a b ≡ workIn r p (suc a) b =
           work-same a b (suc a) b (λ i l. (
-            (λ w. (w .0, (past (startOf r i) (w .1 .0) (λ s. none i l (w .0, s)), w .1 .1))),
+            (λ w. (w .0, (past (startOf (timesIn r) i) (w .1 .0) (λ s. none i l (w .0, s)), w .1 .1))),
             (λ w. (w .0, (omega (arith, w .1 .0), w .1 .1))),
           )) in
           ⊎-elim (λ z. inl (e ∙ z)) (λ (i, l, w, s). inr (i, l, (w .0, (omega (arith, w .1 .0), w .1 .1)), e ∙ s)) t
 
   -- and the work up to b is that up to the last
   abbrev pub ToLast : ℕ → Type 0
-  ToLast b = (workIn r p 0 b ≡ 0) ⊎ ((j : ℕ) × (j < ACTORS) × Between r p 0 b j × (workIn r p 0 b ≡ workIn r p 0 (startOf r j)))
+  ToLast b = (workIn r p 0 b ≡ 0) ⊎ ((j : ℕ) × (j < ACTORS) × Between r p 0 b j × (workIn r p 0 b ≡ workIn r p 0 (startOf (timesIn r) j)))
 
   pub work-last : (b : ℕ) → ToLast b
   work-last zero =
@@ -147,14 +149,14 @@ module _ (r : Running) (p : ℕ) where
       go (inr none) t =
           let e : workIn r p 0 (suc b) ≡ workIn r p 0 b =
           work-same 0 (suc b) 0 b (λ i l. (
-            (λ w. (w .0, (zero-le, past (startOf r i) (w .1 .1) (λ s. none i l (w .0, s))))),
+            (λ w. (w .0, (zero-le, past (startOf (timesIn r) i) (w .1 .1) (λ s. none i l (w .0, s))))),
             (λ w. (w .0, (zero-le, omega (arith, w .1 .1)))),
           )) in
           ⊎-elim (λ z. inl (e ∙ z)) (λ (i, l, w, s). inr (i, l, (w .0, (zero-le, omega (arith, w .1 .1))), e ∙ s)) t
 
 module _ (r : Running) (ready : Ready r) where
   -- an actor that does not run does not work, and processor 0 has no other
-  idle : (i : ℕ) → i < ACTORS → bit (r .active) i ≡ 0 → workOf (actorIn r i .wcet) (firingsAt (r .firings) i) .0 ≡ 0
+  idle : (i : ℕ) → i < ACTORS → bit (r .active) i ≡ 0 → workOf (actorIn (r .actors) i .wcet) (firingsAt (r .firings) i) .0 ≡ 0
   idle i l z = rw (ready .no-actor i l (λ h. omega arith)) (omega arith)
 
   pub work-nowhere : (a b : ℕ) → workIn r 0 a b ≡ 0
@@ -162,45 +164,45 @@ module _ (r : Running) (ready : Ready r) where
       work-none r 0 a b (λ i l w. ⊎-elim (λ (h : Has (r .active) i). absurd (omega (arith, ready .actor i (l, h) .some-processor, w .0)))
       (idle i l) (has-or-not (r .active) i))
 
-  module _ (p : ℕ) (counts : ℕ → Bool) where
-    pub asked-proper : Proper (askedOf r p counts)
-    asked-proper =
-        sum-proper (λ i. cond (isOn r p i && counts i) (askedBy r i) nothing) ACTORS
-        (λ i l. go i (hasb (r .active) i) (eqb (actorIn r i .processor) p) (counts i) (λ t. ready .period i (l, has-decides (r .active) i .0 t)))
-      where
-        go : (i : ℕ) (x y z : Bool) → (T x → 0 < tickAt (r .periods) i .0) → Proper (cond ((x && y) && z) (askedBy r i) nothing)
-        go i false y z f = omega arith
-        go i true false z f = omega arith
-        go i true true false f = omega arith
-        go i true true true f = f tt
+  -- an actor runs on processor p
+  pub on-is : (p i : ℕ) → Decides (Has (r .active) i × (actorIn (r .actors) i .processor ≡ p)) (isOn (timesIn r .mode) p i)
+  on-is p i = decides-and (hasb (r .active) i) (eqb (actorIn (r .actors) i .processor) p) (has-decides (r .active) i) (decides-eqb _ _ ((λ e. e), (λ e. e)))
 
-    -- what those ask that start from a to b is their work as a part of an iteration
-    pub asked-work : (a b : ℕ) → ((i : ℕ) → i < ACTORS → Decides ((a ≤ startOf r i) × (startOf r i ≤ b)) (counts i))
-        → Same (askedOf r p counts) (partOf (tick (workIn r p a b)) (r .iteration))
-    asked-work a b h =
-        sum-common (λ i. cond (isOn r p i && counts i) (askedBy r i) nothing) (counted r p a b) (r .iteration .0) ACTORS
-        (λ i l. ⊎-elim (runs i l) (rests i l) (has-or-not (r .active) i))
+  -- those count that run on processor p and start from a to b
+  abbrev pub Counting : ℕ → ℕ → ℕ → (ℕ → Bool) → Type 0
+  Counting p a b counts = (i : ℕ) → i < ACTORS → Decides ((Has (r .active) i × (actorIn (r .actors) i .processor ≡ p)) × ((a ≤ startOf (timesIn r) i) × (startOf (timesIn r) i ≤ b))) (counts i)
+
+  module _ (p a b : ℕ) (counts : ℕ → Bool) (is : Counting p a b counts) where
+    abbrev asks : ℕ → Bool → Fraction
+    asks i x = cond x (askedBy (timesIn r .mode) (periodIn (timesIn r)) i) nothing
+
+    pub asked-proper : Proper (askedOf (timesIn r .mode) (periodIn (timesIn r)) counts)
+    asked-proper = sum-proper (λ i. asks i (counts i)) ACTORS (λ i l. go i (counts i) (λ t. ready .period i (l, is i l .0 t .0 .0)))
       where
-        part : (i : ℕ) → firingsAt (r .firings) i .0 * tickAt (r .periods) i .0 ≡ r .iteration .0 → (x : Bool)
-            → Same (cond x (askedBy r i) nothing) (record { over = cond x (work r p i) (tick 0) .0; under = r .iteration .0 })
-        part i e true = omega (arith, ap (λ (n : ℕ). actorIn r i .wcet .0 * n) e)
+        go : (i : ℕ) (x : Bool) → (T x → 0 < periodIn (timesIn r) i .0) → Proper (asks i x)
+        go i false f = omega arith
+        go i true f = f tt
+
+    -- what they ask together is their work as a part of an iteration
+    pub asked-work : Same (askedOf (timesIn r .mode) (periodIn (timesIn r)) counts) (shareOf (tick (workIn r p a b)) (r .iteration))
+    asked-work =
+        sum-common (λ i. asks i (counts i)) (counted r p a b) (r .iteration .0) ACTORS (λ i l. ⊎-elim (runs i l) (rests i l) (has-or-not (r .active) i))
+      where
+        part : (i : ℕ) → firingsAt (r .firings) i .0 * periodIn (timesIn r) i .0 ≡ r .iteration .0 → (x : Bool)
+            → Same (asks i x) (record { over = cond x (work r p i) (tick 0) .0; under = r .iteration .0 })
+        part i e true = omega (arith, ap (λ (n : ℕ). actorIn (r .actors) i .wcet .0 * n) e)
         part i e false = omega arith
 
-        none : (i : ℕ) (w : Tick) → w .0 ≡ 0 → (x y z : Bool) → x ≡ false → Same (cond ((x && y) && z) (askedBy r i) nothing) (record { over = cond (test r p a b i) w (tick 0) .0; under = r .iteration .0 })
-        none i w e true y z f = absurd (subst T f tt)
-        none i w e false y z f = go (test r p a b i)
-          where
-            go : (t : Bool) → 0 * r .iteration .0 ≡ cond t w (tick 0) .0 * 1
-            go true = omega arith
-            go false = omega arith
+        none : (i : ℕ) (w : Tick) → w .0 ≡ 0 → (x : Bool) → (T x → ⊥) → (t : Bool) → Same (asks i x) (record { over = cond t w (tick 0) .0; under = r .iteration .0 })
+        none i w e true f t = absurd (f tt)
+        none i w e false f true = omega arith
+        none i w e false f false = omega arith
 
-        runs : (i : ℕ) → i < ACTORS → Has (r .active) i → Same (cond (isOn r p i && counts i) (askedBy r i) nothing) (record { over = counted r p a b i; under = r .iteration .0 })
+        runs : (i : ℕ) → i < ACTORS → Has (r .active) i → Same (asks i (counts i)) (record { over = counted r p a b i; under = r .iteration .0 })
         runs i l y =
-            let e : (isOn r p i && counts i) ≡ test r p a b i =
-            decides-unique (isOn r p i && counts i) (test r p a b i)
-            (decides-and (isOn r p i) (counts i) (decides-and (hasb (r .active) i) (eqb (actorIn r i .processor) p) (has-decides (r .active) i) (decides-eqb _ _ ((λ q. q), (λ q. q)))) (h i l))
-            ((λ t. let w = between-is r p a b i .0 t in ((y, w .0), w .1)), (λ w. between-is r p a b i .1 (w .0 .1, w .1))) in
+            let e : counts i ≡ test r p a b i =
+            decides-unique (counts i) (test r p a b i) (is i l) ((λ t. let w = between-is r p a b i .0 t in ((y, w .0), w .1)), (λ w. between-is r p a b i .1 (w .0 .1, w .1))) in
             rw e (part i (ready .whole i (l, y)) (test r p a b i))
 
-        rests : (i : ℕ) → i < ACTORS → bit (r .active) i ≡ 0 → Same (cond (isOn r p i && counts i) (askedBy r i) nothing) (record { over = counted r p a b i; under = r .iteration .0 })
-        rests i l z = none i (work r p i) (idle i l z) (hasb (r .active) i) (eqb (actorIn r i .processor) p) (counts i) (ne-eqb (bit (r .active) i) 1 (λ y. omega arith))
+        rests : (i : ℕ) → i < ACTORS → bit (r .active) i ≡ 0 → Same (asks i (counts i)) (record { over = counted r p a b i; under = r .iteration .0 })
+        rests i l z = none i (work r p i) (idle i l z) (counts i) (λ t. omega (arith, is i l .0 t .0 .0)) (test r p a b i)

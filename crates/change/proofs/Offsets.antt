@@ -1,7 +1,7 @@
 -- The overlap and the offset that are found are those of the rules: for any limit, the load is borne from an offset on exactly when each new actor waits for each
 -- old one with which its processor would be asked for more. Assumes nothing.
 use mathlib.Core.Path.{_≡_, refl, sym, ap₂, subst, _∙_}
-use mathlib.Core.Bool.{Bool, true, false, cond}
+use mathlib.Core.Bool.{Bool, true, false, cond, _&&_}
 use mathlib.Core.Logic.{_⊎_, inl, inr, ⊎-elim, _↔_}
 use Prim.Native.Nat.{ℕ, suc, _+_, _-_, _*_, _/_, _%_, _≤_, _<_, max, zero-le}
 use native.Mathlib.Nat.{mul-pos, mul-le-mul-left, mul-le-mul-right, lt-of-not-le, not-le-of-lt, le-trans, lt-irrefl}
@@ -11,6 +11,7 @@ use borrow.Author.Tests.{eq-eqb, eqb-true, eqb-false, leb-true, leb-false}
 use lib.Bits.{bitAnd}
 use lib.Dec.{eqb, leb, ltb, ltb→lt, lt→ltb, leb→le, le→leb}
 use Rattle.numbers.specs.Bits.{bit, Has, hasb, has-and, has-or-not}
+use Rattle.numbers.specs.Decides.{decides-and}
 use Rattle.numbers.specs.Extreme.{mostOf, most-next, most-above, most-within, most-at}
 use Rattle.numbers.specs.Fraction.{AtMost, plus, same-plus, same-at-most, atMostb}
 use Rattle.numbers.specs.Tab.{getD-tab}
@@ -18,36 +19,39 @@ use Rattle.numbers.specs.declared.fraction.Fraction.{Fraction}
 use Rattle.units.specs.Limits.{ACTORS, PROCESSORS, limitOf}
 use Rattle.units.specs.Ticks.{tick, minusTicks, greaterTick}
 use Rattle.units.specs.declared.Tick.{Tick}
-use Rattle.period.specs.Period.{partOf}
+use Rattle.period.specs.Period.{shareOf}
 use Rattle.change.specs.declared.Running.{Running}
-use Rattle.change.specs.Work.{tickAt}
-use Rattle.change.specs.Running.{Runs, actorIn, startOf, askedOf, loadAt, Bearable, Bears, Overlap, Offset, Ready}
+use Rattle.tables.specs.Shape.{Active}
+use Rattle.graph.specs.Load.{isOn, askedOf}
+use Rattle.change.specs.Change.{periodIn, startOf, askedOn, loadAt, Bearable, Bears, Overlap, Offset}
+use Rattle.change.specs.Work.{actorIn, tickAt}
+use Rattle.change.specs.Running.{timesIn, Ready}
 use Rattle.change.specs.Waits.{Part, leadOf, overlapOf, oldSide, newSide, waitOf, pairWait, offsetFrom}
-use Rattle.change.proofs.Loads.{workIn, work-within, FromFirst, work-first, ToLast, work-last, work-nowhere, asked-proper, asked-work}
+use Rattle.change.proofs.Loads.{workIn, work-within, FromFirst, work-first, ToLast, work-last, work-nowhere, on-is, Counting, asked-proper, asked-work}
 
 -- what two works ask together of a processor, each as a part of its mode's iteration
 abbrev pub asked : Running → Running → ℕ → ℕ → Fraction
-asked old new v w = plus (partOf (tick v) (old .iteration)) (partOf (tick w) (new .iteration))
+asked old new v w = plus (shareOf (tick v) (old .iteration)) (shareOf (tick w) (new .iteration))
 
 -- what an old actor and those that start no earlier ask with a new one and those that start no later
 abbrev pub together : Running → Running → ℕ → ℕ → Fraction
-together old new i j = asked old new (workIn old (actorIn old i .processor) (startOf old i) (old .startup .0)) (workIn new (actorIn new j .processor) 0 (startOf new j))
+together old new i j = asked old new (workIn old (actorIn (old .actors) i .processor) (startOf (timesIn old) i) (old .startup .0)) (workIn new (actorIn (new .actors) j .processor) 0 (startOf (timesIn new) j))
 
 -- the new actor waits for the old one, where they are on one processor and that is above the limit
 abbrev pub Waits : (ℕ → Fraction) → Running → Running → ℕ → ℕ → ℕ → Type 0
 Waits limit old new d i j =
-    actorIn old i .processor ≡ actorIn new j .processor → (AtMost (together old new i j) (limit (actorIn old i .processor)) → ⊥) → startOf old i ≤ d + startOf new j
+    actorIn (old .actors) i .processor ≡ actorIn (new .actors) j .processor → (AtMost (together old new i j) (limit (actorIn (old .actors) i .processor)) → ⊥) → startOf (timesIn old) i ≤ d + startOf (timesIn new) j
 
 -- one actor more: in both modes, or not
 module _ (old new : Running) (i : ℕ) where
-  pub lead-both : hasb (bitAnd (old .active) (new .active)) i ≡ true → mostOf (leadOf old new) (i + 1) ≡ max (mostOf (leadOf old new) i) (startOf old i - startOf new i)
+  pub lead-both : hasb (bitAnd (old .active) (new .active)) i ≡ true → mostOf (leadOf old new) (i + 1) ≡ max (mostOf (leadOf old new) i) (startOf (timesIn old) i - startOf (timesIn new) i)
   lead-both e = most-next (leadOf old new) i ∙ rw e
 
   pub lead-other : hasb (bitAnd (old .active) (new .active)) i ≡ false → mostOf (leadOf old new) (i + 1) ≡ mostOf (leadOf old new) i
   lead-other e = most-next (leadOf old new) i ∙ rw e (omega arith)
 
 -- the greatest lead is the overlap
-pub overlap-is : (old new : Running) → Overlap old new (overlapOf old new)
+pub overlap-is : (old new : Running) → Overlap (timesIn old) (timesIn new) (overlapOf old new)
 overlap-is old new =
     record {
       holds = some (decLe 1 (mostOf (leadOf old new) ACTORS));
@@ -55,18 +59,18 @@ overlap-is old new =
           (λ (i, a, b, e). omega (arith, most-above (leadOf old new) ACTORS i (a .0), led i (has-and (old .active) (new .active) i .1 (a .1, b .1))));
     }
   where
-    led : (i : ℕ) → Has (bitAnd (old .active) (new .active)) i → leadOf old new i ≡ startOf old i - startOf new i
+    led : (i : ℕ) → Has (bitAnd (old .active) (new .active)) i → leadOf old new i ≡ startOf (timesIn old) i - startOf (timesIn new) i
     led i h = rw (eq-eqb _ _ h)
 
     ahead : (i : ℕ) → 0 < leadOf old new i → Has (bitAnd (old .active) (new .active)) i
     ahead i h = go (hasb (bitAnd (old .active) (new .active)) i) refl h
       where
-        go : (x : Bool) → hasb (bitAnd (old .active) (new .active)) i ≡ x → 0 < cond x (startOf old i - startOf new i) 0 → Has (bitAnd (old .active) (new .active)) i
+        go : (x : Bool) → hasb (bitAnd (old .active) (new .active)) i ≡ x → 0 < cond x (startOf (timesIn old) i - startOf (timesIn new) i) 0 → Has (bitAnd (old .active) (new .active)) i
         go true e h = eqb-true _ _ e
         go false e h = absurd (lt-irrefl 0 h)
 
     some : Dec (1 ≤ mostOf (leadOf old new) ACTORS)
-        → (mostOf (leadOf old new) ACTORS ≡ 0) ⊎ ((i : ℕ) × Runs old i × Runs new i × (mostOf (leadOf old new) ACTORS ≡ startOf old i - startOf new i))
+        → (mostOf (leadOf old new) ACTORS ≡ 0) ⊎ ((i : ℕ) × Active (timesIn old .mode) i × Active (timesIn new .mode) i × (mostOf (leadOf old new) ACTORS ≡ startOf (timesIn old) i - startOf (timesIn new) i))
     some (no n) = inl (omega arith)
     some (yes h) =
         let (i, l, e) = most-at (leadOf old new) ACTORS h in
@@ -76,46 +80,59 @@ overlap-is old new =
 
 -- what a planned mode has of its actors
 module _ (r : Running) (ready : Ready r) (i : ℕ) (l : i < ACTORS) where
-  since-is : tickAt (r .since) i ≡ tick (workIn r (actorIn r i .processor) (startOf r i) (r .startup .0))
+  since-is : tickAt (r .since) i ≡ tick (workIn r (actorIn (r .actors) i .processor) (startOf (timesIn r) i) (r .startup .0))
   since-is = rw (ready .since) (getD-tab ACTORS _ i (tick 0) l)
 
-  until-is : tickAt (r .until) i ≡ tick (workIn r (actorIn r i .processor) 0 (startOf r i))
+  until-is : tickAt (r .until) i ≡ tick (workIn r (actorIn (r .actors) i .processor) 0 (startOf (timesIn r) i))
   until-is = rw (ready .until) (getD-tab ACTORS _ i (tick 0) l)
 
 module _ (limit : ℕ → Fraction) where
   -- a mode's work on a processor is within the limit
-  pub own-work : (r : Running) → Ready r → Bearable limit r → (p : ℕ) → 1 ≤ p → p ≤ PROCESSORS → (a b : ℕ) → AtMost (partOf (tick (workIn r p a b)) (r .iteration)) (limit p)
+  pub own-work : (r : Running) → Ready r → Bearable limit (timesIn r) → (p : ℕ) → 1 ≤ p → p ≤ PROCESSORS → (a b : ℕ) → AtMost (shareOf (tick (workIn r p a b)) (r .iteration)) (limit p)
   own-work r ready own p l m a b =
       omega (
         arith,
         mul-le-mul-right (limit p .under) (work-within r p a b 0 (r .startup .0) (λ i l w. (w .0, (zero-le, ready .start i l)))),
-        same-at-most (askedOf r p (λ i. true)) (partOf (tick (workIn r p 0 (r .startup .0))) (r .iteration)) (limit p) (asked-proper r ready p (λ i. true)) (ready .some-tick)
-            (asked-work r ready p (λ i. true) 0 (r .startup .0) (λ i l. ((λ t. (zero-le, ready .start i l)), (λ w. tt)))) .0 (own p l m),
+        same-at-most (askedOf (timesIn r .mode) (periodIn (timesIn r)) (isOn (timesIn r .mode) p)) (shareOf (tick (workIn r p 0 (r .startup .0))) (r .iteration)) (limit p)
+            (asked-proper r ready p 0 (r .startup .0) (isOn (timesIn r .mode) p) all) (ready .some-tick) (asked-work r ready p 0 (r .startup .0) (isOn (timesIn r .mode) p) all) .0 (own p l m),
       )
+    where
+      all : Counting r ready p 0 (r .startup .0) (isOn (timesIn r .mode) p)
+      all i l = ((λ t. (on-is r ready p i .0 t, (zero-le, ready .start i l))), (λ w. on-is r ready p i .1 (w .0)))
 
   module _ (old new : Running) (ready-old : Ready old) (ready-new : Ready new) where
     -- the load at tick k by works
     load-work : (d k p : ℕ) → d ≤ k
-        → AtMost (loadAt old new d k p) (limit p) ↔ AtMost (asked old new (workIn old p (suc k) (old .startup .0)) (workIn new p 0 (k - d))) (limit p)
+        → AtMost (loadAt (timesIn old) (timesIn new) d k p) (limit p) ↔ AtMost (asked old new (workIn old p (suc k) (old .startup .0)) (workIn new p 0 (k - d))) (limit p)
     load-work d k p h =
-        same-at-most (loadAt old new d k p) (asked old new (workIn old p (suc k) (old .startup .0)) (workIn new p 0 (k - d))) (limit p)
-        (mul-pos (asked-proper old ready-old p counts-old) (asked-proper new ready-new p counts-new))
+        same-at-most (loadAt (timesIn old) (timesIn new) d k p) (asked old new (workIn old p (suc k) (old .startup .0)) (workIn new p 0 (k - d))) (limit p)
+        (mul-pos (asked-proper old ready-old p (suc k) (old .startup .0) counts-old is-old) (asked-proper new ready-new p 0 (k - d) counts-new is-new))
         (mul-pos (ready-old .some-tick) (ready-new .some-tick))
-        (same-plus (askedOf old p counts-old) (askedOf new p counts-new) (partOf (tick (workIn old p (suc k) (old .startup .0))) (old .iteration)) (partOf (tick (workIn new p 0 (k - d))) (new .iteration))
-        (asked-work old ready-old p counts-old (suc k) (old .startup .0) (λ i l. ((λ t. (ltb→lt _ _ t, ready-old .start i l)), (λ w. lt→ltb _ _ (w .0)))))
-        (asked-work new ready-new p counts-new 0 (k - d) (λ i l. ((λ t. (zero-le, less (startOf new i) (leb→le _ _ t))), (λ w. le→leb _ _ (more (startOf new i) (w .1)))))))
+        (same-plus (askedOn (timesIn old) p (λ i. ltb k (startOf (timesIn old) i))) (askedOn (timesIn new) p (λ i. leb (d + startOf (timesIn new) i) k))
+        (shareOf (tick (workIn old p (suc k) (old .startup .0))) (old .iteration)) (shareOf (tick (workIn new p 0 (k - d))) (new .iteration))
+        (asked-work old ready-old p (suc k) (old .startup .0) counts-old is-old) (asked-work new ready-new p 0 (k - d) counts-new is-new))
       where
         counts-old : ℕ → Bool
-        counts-old i = ltb k (startOf old i)
+        counts-old i = isOn (timesIn old .mode) p i && ltb k (startOf (timesIn old) i)
 
         counts-new : ℕ → Bool
-        counts-new i = leb (d + startOf new i) k
+        counts-new i = isOn (timesIn new .mode) p i && leb (d + startOf (timesIn new) i) k
 
         less : (s : ℕ) → d + s ≤ k → s ≤ k - d
         less s g = omega arith
 
         more : (s : ℕ) → s ≤ k - d → d + s ≤ k
         more s g = omega arith
+
+        is-old : Counting old ready-old p (suc k) (old .startup .0) counts-old
+        is-old i l =
+            decides-and (isOn (timesIn old .mode) p i) (ltb k (startOf (timesIn old) i)) (on-is old ready-old p i)
+            ((λ t. (ltb→lt _ _ t, ready-old .start i l)), (λ w. lt→ltb _ _ (w .0)))
+
+        is-new : Counting new ready-new p 0 (k - d) counts-new
+        is-new i l =
+            decides-and (isOn (timesIn new .mode) p i) (leb (d + startOf (timesIn new) i) k) (on-is new ready-new p i)
+            ((λ t. (zero-le, less (startOf (timesIn new) i) (leb→le _ _ t))), (λ w. le→leb _ _ (more (startOf (timesIn new) i) (w .1))))
 
     -- less work is within the limit too, and so is that of one mode
     less-asked : (f : Fraction) (v w x y : ℕ) → v ≤ x → w ≤ y → AtMost (asked old new x y) f → AtMost (asked old new v w) f
@@ -127,42 +144,42 @@ module _ (limit : ℕ → Fraction) where
           mul-le-mul-right (old .iteration .0 * f .under) h,
         )
 
-    one-asked : (f : Fraction) (w : ℕ) → AtMost (partOf (tick w) (new .iteration)) f → AtMost (asked old new 0 w) f
+    one-asked : (f : Fraction) (w : ℕ) → AtMost (shareOf (tick w) (new .iteration)) f → AtMost (asked old new 0 w) f
     one-asked f w m = omega (arith, mul-le-mul-left (old .iteration .0) m)
 
-    other-asked : (f : Fraction) (v : ℕ) → AtMost (partOf (tick v) (old .iteration)) f → AtMost (asked old new v 0) f
+    other-asked : (f : Fraction) (v : ℕ) → AtMost (shareOf (tick v) (old .iteration)) f → AtMost (asked old new v 0) f
     other-asked f v m = omega (arith, mul-le-mul-left (new .iteration .0) m)
 
     -- an offset from which the load is borne: each new actor waits
-    bears-waits : (d : ℕ) → Bears limit old new d → (i j : ℕ) → i < ACTORS → j < ACTORS → Waits limit old new d i j
-    bears-waits d bears i j li lj e above = go (decLe (startOf old i) (d + startOf new j)) (has-or-not (old .active) i)
+    bears-waits : (d : ℕ) → Bears limit (timesIn old) (timesIn new) d → (i j : ℕ) → i < ACTORS → j < ACTORS → Waits limit old new d i j
+    bears-waits d bears i j li lj e above = go (decLe (startOf (timesIn old) i) (d + startOf (timesIn new) j)) (has-or-not (old .active) i)
       where
         -- the load at the new actor's start
-        borne : d + startOf new j < startOf old i → Has (old .active) i → AtMost (together old new i j) (limit (actorIn old i .processor))
+        borne : d + startOf (timesIn new) j < startOf (timesIn old) i → Has (old .active) i → AtMost (together old new i j) (limit (actorIn (old .actors) i .processor))
         borne h y =
             let a = ready-old .actor i (li, y) in
-            let p = actorIn old i .processor in
-            let k = d + startOf new j in
+            let p = actorIn (old .actors) i .processor in
+            let k = d + startOf (timesIn new) j in
             less-asked (limit p) _ _ (workIn old p (suc k) (old .startup .0)) (workIn new p 0 (k - d))
-            (work-within old p (startOf old i) (old .startup .0) (suc k) (old .startup .0) (λ n l w. (w .0, (omega (arith, w .1 .0), w .1 .1))))
-            (rw (← e) (work-within new p 0 (startOf new j) 0 (k - d) (λ n l w. (w .0, (zero-le, omega (arith, w .1 .1))))))
+            (work-within old p (startOf (timesIn old) i) (old .startup .0) (suc k) (old .startup .0) (λ n l w. (w .0, (omega (arith, w .1 .0), w .1 .1))))
+            (rw (← e) (work-within new p 0 (startOf (timesIn new) j) 0 (k - d) (λ n l w. (w .0, (zero-le, omega (arith, w .1 .1))))))
             (load-work d k p (omega arith) .0 (bears k p (omega arith) (omega (arith, ready-old .start i li)) (a .some-processor) (a .processor)))
 
         -- an actor that does not run asks for nothing, nor does any other with it
-        nowhere : bit (old .active) i ≡ 0 → AtMost (together old new i j) (limit (actorIn old i .processor))
+        nowhere : bit (old .active) i ≡ 0 → AtMost (together old new i j) (limit (actorIn (old .actors) i .processor))
         nowhere z =
-            let q : actorIn old i .processor ≡ 0 = rw (ready-old .no-actor i li (λ h. omega arith)) in
-            let v : workIn old (actorIn old i .processor) (startOf old i) (old .startup .0) ≡ 0 = rw q (work-nowhere old ready-old _ _) in
-            let w : workIn new (actorIn new j .processor) 0 (startOf new j) ≡ 0 = rw (← e, q) (work-nowhere new ready-new _ _) in
+            let q : actorIn (old .actors) i .processor ≡ 0 = rw (ready-old .no-actor i li (λ h. omega arith)) in
+            let v : workIn old (actorIn (old .actors) i .processor) (startOf (timesIn old) i) (old .startup .0) ≡ 0 = rw q (work-nowhere old ready-old _ _) in
+            let w : workIn new (actorIn (new .actors) j .processor) 0 (startOf (timesIn new) j) ≡ 0 = rw (← e, q) (work-nowhere new ready-new _ _) in
             rw (v, w) (omega arith)
 
-        go : Dec (startOf old i ≤ d + startOf new j) → Has (old .active) i ⊎ (bit (old .active) i ≡ 0) → startOf old i ≤ d + startOf new j
+        go : Dec (startOf (timesIn old) i ≤ d + startOf (timesIn new) j) → Has (old .active) i ⊎ (bit (old .active) i ≡ 0) → startOf (timesIn old) i ≤ d + startOf (timesIn new) j
         go (yes h) a = h
         go (no n) (inl y) = absurd (above (borne (lt-of-not-le n) y))
         go (no n) (inr z) = absurd (above (nowhere z))
 
     -- and the other way
-    waits-bears : (d : ℕ) → ((i j : ℕ) → i < ACTORS → j < ACTORS → Waits limit old new d i j) → Bearable limit old → Bearable limit new → Bears limit old new d
+    waits-bears : (d : ℕ) → ((i j : ℕ) → i < ACTORS → j < ACTORS → Waits limit old new d i j) → Bearable limit (timesIn old) → Bearable limit (timesIn new) → Bears limit (timesIn old) (timesIn new) d
     waits-bears d waits own-old own-new k p dk ks l m =
         load-work d k p dk .1 (go (work-first old p (suc (old .startup .0)) (suc k) (old .startup .0) (omega arith)) (work-last new p (k - d)))
       where
@@ -173,33 +190,33 @@ module _ (limit : ℕ → Fraction) where
         go (inr (i, li, (ei, wi), vi)) (inr (j, lj, (ej, wj), vj)) =
             rw (vi, vj) (pair (decLe _ _))
           where
-            pair : Dec (AtMost (asked old new (workIn old p (startOf old i) (old .startup .0)) (workIn new p 0 (startOf new j))) (limit p))
-                → AtMost (asked old new (workIn old p (startOf old i) (old .startup .0)) (workIn new p 0 (startOf new j))) (limit p)
+            pair : Dec (AtMost (asked old new (workIn old p (startOf (timesIn old) i) (old .startup .0)) (workIn new p 0 (startOf (timesIn new) j))) (limit p))
+                → AtMost (asked old new (workIn old p (startOf (timesIn old) i) (old .startup .0)) (workIn new p 0 (startOf (timesIn new) j))) (limit p)
             pair (yes h) = h
-            pair (no n) = let late : startOf old i ≤ d + startOf new j = waits i j li lj (ei ∙ sym ej) (rw (ei, ej) n) in absurd (omega arith)
+            pair (no n) = let late : startOf (timesIn old) i ≤ d + startOf (timesIn new) j = waits i j li lj (ei ∙ sym ej) (rw (ei, ej) n) in absurd (omega arith)
 
     -- how long a new actor waits for an old one
     wait-is : (d i j : ℕ) → i < ACTORS → j < ACTORS → (waitOf limit (oldSide old i) (newSide new j) .0 ≤ d) ↔ Waits limit old new d i j
     wait-is d i j li lj =
-        rw (since-is old ready-old i li, until-is new ready-new j lj) (go (eqb (actorIn old i .processor) (actorIn new j .processor)) refl (atMostb (together old new i j) (limit (actorIn old i .processor))) refl)
+        rw (since-is old ready-old i li, until-is new ready-new j lj) (go (eqb (actorIn (old .actors) i .processor) (actorIn (new .actors) j .processor)) refl (atMostb (together old new i j) (limit (actorIn (old .actors) i .processor))) refl)
       where
-        go : (x : Bool) → eqb (actorIn old i .processor) (actorIn new j .processor) ≡ x → (y : Bool) → atMostb (together old new i j) (limit (actorIn old i .processor)) ≡ y
+        go : (x : Bool) → eqb (actorIn (old .actors) i .processor) (actorIn (new .actors) j .processor) ≡ x → (y : Bool) → atMostb (together old new i j) (limit (actorIn (old .actors) i .processor)) ≡ y
             → (cond x (cond y (tick 0) (minusTicks (tickAt (old .starts) i) (tickAt (new .starts) j))) (tick 0) .0 ≤ d) ↔ Waits limit old new d i j
         go false e y f = ((λ h same n. absurd (eqb-false _ _ e same)), (λ w. zero-le))
         go true e true f = ((λ h same n. absurd (n (leb-true _ _ f))), (λ w. zero-le))
         go true e false f = (
           (λ h same n. omega arith),
-          (λ w. let late : startOf old i ≤ d + startOf new j = w (eqb-true _ _ e) (λ h. not-le-of-lt (leb-false _ _ f) h) in omega arith),
+          (λ w. let late : startOf (timesIn old) i ≤ d + startOf (timesIn new) j = w (eqb-true _ _ e) (λ h. not-le-of-lt (leb-false _ _ f) h) in omega arith),
         )
 
     -- the load is borne from an offset on exactly when it is at least what is found
-    pub bears-from : Bearable limit old → Bearable limit new → (d : ℕ) → Bears limit old new d ↔ (offsetFrom limit old new .0 ≤ d)
+    pub bears-from : Bearable limit (timesIn old) → Bearable limit (timesIn new) → (d : ℕ) → Bears limit (timesIn old) (timesIn new) d ↔ (offsetFrom limit old new .0 ≤ d)
     bears-from own-old own-new d = (
       (λ b. most-within (pairWait limit old new) d (ACTORS * ACTORS) (λ n l. waits b (n / ACTORS) (n % ACTORS) (omega arith) (omega arith))),
       (λ h. waits-bears d (λ i j li lj. wait-is d i j li lj .0 (le-trans (within i j li lj) h)) own-old own-new),
     )
       where
-        waits : Bears limit old new d → (i j : ℕ) → i < ACTORS → j < ACTORS → waitOf limit (oldSide old i) (newSide new j) .0 ≤ d
+        waits : Bears limit (timesIn old) (timesIn new) d → (i j : ℕ) → i < ACTORS → j < ACTORS → waitOf limit (oldSide old i) (newSide new j) .0 ≤ d
         waits b i j li lj = wait-is d i j li lj .1 (bears-waits d b i j li lj)
 
         within : (i j : ℕ) → i < ACTORS → j < ACTORS → waitOf limit (oldSide old i) (newSide new j) .0 ≤ offsetFrom limit old new .0
@@ -210,12 +227,12 @@ module _ (limit : ℕ → Fraction) where
             subst (λ (x : ℕ). x ≤ offsetFrom limit old new .0) w (most-above (pairWait limit old new) (ACTORS * ACTORS) (ACTORS * i + j) (omega arith))
 
     -- so it is from the end of the old mode's start-up
-    pub bears-at-last : Bearable limit old → Bearable limit new → Bears limit old new (old .startup .0)
+    pub bears-at-last : Bearable limit (timesIn old) → Bearable limit (timesIn new) → Bears limit (timesIn old) (timesIn new) (old .startup .0)
     bears-at-last own-old own-new =
         waits-bears (old .startup .0) (λ i j li lj e n. omega (arith, ready-old .start i li)) own-old own-new
 
     -- the later of the overlap and what is found is the offset
-    pub offset-is : Bearable limit old → Bearable limit new → Offset limit old new (overlapOf old new) (greaterTick (overlapOf old new) (offsetFrom limit old new))
+    pub offset-is : Bearable limit (timesIn old) → Bearable limit (timesIn new) → Offset limit (timesIn old) (timesIn new) (overlapOf old new) (greaterTick (overlapOf old new) (offsetFrom limit old new))
     offset-is own-old own-new =
         record {
           holds = (
@@ -231,30 +248,30 @@ module _ (limit : ℕ → Fraction) where
         go false v h = zero-le
 
         short : overlapOf old new .0 ≤ old .startup .0
-        short = most-within _ _ ACTORS (λ i l. go (hasb (bitAnd (old .active) (new .active)) i) (startOf old i - startOf new i) (omega (arith, ready-old .start i l)))
+        short = most-within _ _ ACTORS (λ i l. go (hasb (bitAnd (old .active) (new .active)) i) (startOf (timesIn old) i - startOf (timesIn new) i) (omega (arith, ready-old .start i l)))
 
 -- each is a part of an iteration
 module _ (r : Running) (ready : Ready r) (i : ℕ) (l : i < ACTORS) where
-  work-part : (a b : ℕ) → Part (partOf (tick (workIn r (actorIn r i .processor) a b)) (r .iteration))
+  work-part : (a b : ℕ) → Part (shareOf (tick (workIn r (actorIn (r .actors) i .processor) a b)) (r .iteration))
   work-part a b = record { some = ready .some-tick; part = ⊎-elim on nowhere (has-or-not (r .active) i); whole = ready .iteration }
     where
-      on : Has (r .active) i → workIn r (actorIn r i .processor) a b ≤ r .iteration .0
-      on y = let p = ready .actor i (l, y) in omega (arith, own-work limitOf r ready (ready .load) (actorIn r i .processor) (p .some-processor) (p .processor) a b)
+      on : Has (r .active) i → workIn r (actorIn (r .actors) i .processor) a b ≤ r .iteration .0
+      on y = let p = ready .actor i (l, y) in omega (arith, own-work limitOf r ready (ready .load) (actorIn (r .actors) i .processor) (p .some-processor) (p .processor) a b)
 
-      nowhere : bit (r .active) i ≡ 0 → workIn r (actorIn r i .processor) a b ≤ r .iteration .0
+      nowhere : bit (r .active) i ≡ 0 → workIn r (actorIn (r .actors) i .processor) a b ≤ r .iteration .0
       nowhere z =
-          let q : actorIn r i .processor ≡ 0 = rw (ready .no-actor i l (λ h. omega arith)) in
-          let w : workIn r (actorIn r i .processor) a b ≡ 0 = rw q (work-nowhere r ready a b) in
+          let q : actorIn (r .actors) i .processor ≡ 0 = rw (ready .no-actor i l (λ h. omega arith)) in
+          let w : workIn r (actorIn (r .actors) i .processor) a b ≡ 0 = rw q (work-nowhere r ready a b) in
           omega arith
 
-  pub since-part : Part (partOf (tickAt (r .since) i) (r .iteration))
+  pub since-part : Part (shareOf (tickAt (r .since) i) (r .iteration))
   since-part = rw (since-is r ready i l) (work-part _ _)
 
-  pub until-part : Part (partOf (tickAt (r .until) i) (r .iteration))
+  pub until-part : Part (shareOf (tickAt (r .until) i) (r .iteration))
   until-part = rw (until-is r ready i l) (work-part _ _)
 
 -- what is found, under the limit in force
 pub found : (old new : Running) → Ready old → Ready new → {x o d : Tick} → x ≡ overlapOf old new → o ≡ offsetFrom limitOf old new → d ≡ greaterTick x o
-    → Overlap old new x × Offset limitOf old new x d
+    → Overlap (timesIn old) (timesIn new) x × Offset limitOf (timesIn old) (timesIn new) x d
 found old new ready-old ready-new e f g =
     rw (g, e, f) (overlap-is old new, offset-is limitOf old new ready-old ready-new (ready-old .load) (ready-new .load))

@@ -1,67 +1,54 @@
 -- The rules of a change: overlap, offset and worst delay.
 use mathlib.Core.Path.{_≡_, refl, sym, ap, subst, _∙_}
-use mathlib.Core.Bool.{Bool, true, cond, _&&_}
+use mathlib.Core.Bool.{Bool, _&&_}
 use mathlib.Core.List.{List}
 use mathlib.Core.Logic.{_⊎_, inr}
-use Prim.Native.Nat.{ℕ, _+_, _-_, _≤_, _<_}
+use Prim.Native.Nat.{ℕ, _+_, _-_, _≤_}
 use native.Mathlib.Omega.{arith}
-use lib.Dec.{eqb, leb, ltb}
+use lib.Dec.{leb, ltb}
 use lib.ListN.{getD}
-use Rattle.numbers.specs.Bits.{Has, hasb}
 use Rattle.numbers.specs.Extreme.{Least, Greatest, least-unique, greatest-unique}
-use Rattle.numbers.specs.Fraction.{AtMost, plus, sumOf, nothing}
+use Rattle.numbers.specs.Fraction.{AtMost, plus}
 use Rattle.numbers.specs.declared.fraction.Fraction.{Fraction}
-use Rattle.units.specs.Limits.{ACTORS, PROCESSORS, limitOf}
+use Rattle.units.specs.Limits.{PROCESSORS, limitOf}
 use Rattle.units.specs.Ticks.{tick}
 use Rattle.units.specs.declared.Tick.{Tick}
-use Rattle.period.specs.Period.{partOf}
-use Rattle.tables.specs.declared.Actor.{Actor}
-use Rattle.tables.specs.Shape.{noActor}
+use Rattle.tables.specs.declared.Mode.{Mode}
+use Rattle.tables.specs.Shape.{Active}
+use Rattle.graph.specs.Load.{isOn, askedOf}
 use Rattle.change.specs.declared.Timing.{Timing}
 
--- a mode and what is planned of it: its actors, their periods and starts, its iteration, and the end of its start-up
+-- a mode and what is planned of it: its actors' periods and starts, its iteration, the tick set for the sink's first firing, and the end of its start-up
 pub record ModeTimes : Type 0 where
-  pub active : ℕ
-  pub actors : List Actor
+  pub mode : Mode
   pub iteration : Tick
   pub periods : List Tick
   pub starts : List Tick
+  pub sinkStart : Tick
   pub startup : Tick
 
--- actor i runs in the mode
-abbrev pub Runs : ModeTimes → ℕ → Type 0
-Runs r i = (i < ACTORS) × Has (r .active) i
-
--- what it is, and its start
-abbrev pub actorIn : ModeTimes → ℕ → Actor
-actorIn r i = getD (r .actors) i noActor
+-- an actor's period, and its start
+abbrev pub periodIn : ModeTimes → ℕ → Tick
+periodIn r i = getD (r .periods) i (tick 0)
 
 abbrev pub startOf : ModeTimes → ℕ → ℕ
 startOf r i = getD (r .starts) i (tick 0) .0
 
--- what it asks of its processor: wcet / T
-abbrev pub askedBy : ModeTimes → ℕ → Fraction
-askedBy r i = partOf (actorIn r i .wcet) (getD (r .periods) i (tick 0))
-
 -- Overlap: the greatest of 0 and S(old) - S(new), over the actors in both modes.
 abbrev pub Overlap : ModeTimes → ModeTimes → Tick → Type 0
-Overlap old new x = Greatest (λ v. (v ≡ 0) ⊎ ((i : ℕ) × Runs old i × Runs new i × (v ≡ startOf old i - startOf new i))) (x .0)
-
--- actor i runs on processor p
-abbrev pub isOn : ModeTimes → ℕ → ℕ → Bool
-isOn r p i = hasb (r .active) i && eqb (actorIn r i .processor) p
-
--- what those actors of a mode ask together of processor p that count
-abbrev pub askedOf : ModeTimes → ℕ → (ℕ → Bool) → Fraction
-askedOf r p counts = sumOf (λ i. cond (isOn r p i && counts i) (askedBy r i) nothing) ACTORS
+Overlap old new x = Greatest (λ v. (v ≡ 0) ⊎ ((i : ℕ) × Active (old .mode) i × Active (new .mode) i × (v ≡ startOf old i - startOf new i))) (x .0)
 
 -- a mode by itself asks of no processor more than its limit
 abbrev pub Bearable : (ℕ → Fraction) → ModeTimes → Type 0
-Bearable limit r = (p : ℕ) → 1 ≤ p → p ≤ PROCESSORS → AtMost (askedOf r p (λ i. true)) (limit p)
+Bearable limit r = (p : ℕ) → 1 ≤ p → p ≤ PROCESSORS → AtMost (askedOf (r .mode) (periodIn r) (isOn (r .mode) p)) (limit p)
+
+-- what those actors of a mode on processor p that count ask together
+abbrev pub askedOn : ModeTimes → ℕ → (ℕ → Bool) → Fraction
+askedOn r p counts = askedOf (r .mode) (periodIn r) (λ i. isOn (r .mode) p i && counts i)
 
 -- the load of processor p at tick k of the change, with offset d: an old actor counts while k is below its start, a new one once k is at least d + its start
 abbrev pub loadAt : ModeTimes → ModeTimes → ℕ → ℕ → ℕ → Fraction
-loadAt old new d k p = plus (askedOf old p (λ i. ltb k (startOf old i))) (askedOf new p (λ i. leb (d + startOf new i) k))
+loadAt old new d k p = plus (askedOn old p (λ i. ltb k (startOf old i))) (askedOn new p (λ i. leb (d + startOf new i) k))
 
 -- with offset d each processor's load is at most its limit, at every tick from d to the end of the old mode's start-up
 abbrev pub Bears : (ℕ → Fraction) → ModeTimes → ModeTimes → ℕ → Type 0
@@ -71,9 +58,9 @@ Bears limit old new d = (k p : ℕ) → d ≤ k → k ≤ old .startup .0 → 1 
 abbrev pub Offset : (ℕ → Fraction) → ModeTimes → ModeTimes → Tick → Tick → Type 0
 Offset limit old new x d = Least (λ n. (x .0 ≤ n) × (n ≤ old .startup .0) × Bears limit old new n) (d .0)
 
--- Worst delay: the offset, the start-up of the new mode, and an iteration of the old one less a tick.
+-- Worst delay: the offset, the sink's start in the new mode, and an iteration of the old one less a tick.
 abbrev pub worstOf : ModeTimes → ModeTimes → Tick → Tick
-worstOf old new d = tick (d .0 + new .startup .0 + old .iteration .0 - 1)
+worstOf old new d = tick (d .0 + new .sinkStart .0 + old .iteration .0 - 1)
 
 pub record Changes (old new : ModeTimes) (r : Timing) : Type 0 where
   pub overlap : Overlap old new (r .overlap)
@@ -81,7 +68,7 @@ pub record Changes (old new : ModeTimes) (r : Timing) : Type 0 where
   pub worst : r .worst ≡ worstOf old new (r .offset)
 
 -- an actor in both modes starts anew only once it has ended
-pub starts-after : (old new : ModeTimes) {r : Timing} → Changes old new r → (i : ℕ) → Runs old i → Runs new i → startOf old i ≤ r .offset .0 + startOf new i
+pub starts-after : (old new : ModeTimes) {r : Timing} → Changes old new r → (i : ℕ) → Active (old .mode) i → Active (new .mode) i → startOf old i ≤ r .offset .0 + startOf new i
 starts-after old new {r} p i a b =
     omega (arith, p .overlap .greatest (startOf old i - startOf new i) (inr (i, a, b, refl)), p .offset .holds .0)
 

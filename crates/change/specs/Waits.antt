@@ -10,11 +10,12 @@ use Rattle.numbers.specs.declared.fraction.Fraction.{Fraction}
 use Rattle.units.specs.Limits.{ACTORS, ITERATION-LIMIT}
 use Rattle.units.specs.Ticks.{tick, minusTicks}
 use Rattle.units.specs.declared.Tick.{Tick}
-use Rattle.period.specs.Period.{partOf}
+use Rattle.period.specs.Period.{shareOf}
 use Rattle.change.specs.declared.Running.{Running}
 use Rattle.change.specs.declared.wait.Side.{Side}
-use Rattle.change.specs.Work.{tickAt}
-use Rattle.change.specs.Running.{actorIn, startOf}
+use Rattle.change.specs.Change.{startOf}
+use Rattle.change.specs.Work.{actorIn, tickAt}
+use Rattle.change.specs.Running.{timesIn}
 
 -- a part of an iteration
 pub record Part (a : Fraction) : Type 0 where
@@ -23,17 +24,17 @@ pub record Part (a : Fraction) : Type 0 where
   pub whole : a .under ≤ ITERATION-LIMIT .0
 
 abbrev pub leadOf : Running → Running → ℕ → ℕ
-leadOf old new i = cond (hasb (bitAnd (old .active) (new .active)) i) (startOf old i - startOf new i) 0
+leadOf old new i = cond (hasb (bitAnd (old .active) (new .active)) i) (startOf (timesIn old) i - startOf (timesIn new) i) 0
 
 abbrev pub overlapOf : Running → Running → Tick
 overlapOf old new = tick (mostOf (leadOf old new) ACTORS)
 
 -- an old actor with those that start no earlier, and a new one with those that start no later
 abbrev pub oldSide : Running → ℕ → Side
-oldSide r i = record { processor = actorIn r i .processor; start = tickAt (r .starts) i; asked = partOf (tickAt (r .since) i) (r .iteration) }
+oldSide r i = record { processor = actorIn (r .actors) i .processor; start = tickAt (r .starts) i; asked = shareOf (tickAt (r .since) i) (r .iteration) }
 
 abbrev pub newSide : Running → ℕ → Side
-newSide r j = record { processor = actorIn r j .processor; start = tickAt (r .starts) j; asked = partOf (tickAt (r .until) j) (r .iteration) }
+newSide r j = record { processor = actorIn (r .actors) j .processor; start = tickAt (r .starts) j; asked = shareOf (tickAt (r .until) j) (r .iteration) }
 
 abbrev pub waitOf : (ℕ → Fraction) → Side → Side → Tick
 waitOf limit a b = cond (eqb (a .processor) (b .processor)) (cond (atMostb (plus (a .asked) (b .asked)) (limit (a .processor))) (tick 0) (minusTicks (a .start) (b .start))) (tick 0)

@@ -19,8 +19,8 @@ use Rattle.tables.specs.Shape.{noActor}
 use Rattle.change.specs.declared.Running.{Running}
 
 -- an actor, its firings and its start
-abbrev pub actorAt : List Actor → ℕ → Actor
-actorAt actors i = getD actors i noActor
+abbrev pub actorIn : List Actor → ℕ → Actor
+actorIn actors i = getD actors i noActor
 
 abbrev pub firingsAt : List Firing → ℕ → Firing
 firingsAt firings i = getD firings i (firing 0)
@@ -33,7 +33,7 @@ pub record Fitting (actors : List Actor) (firings : List Firing) (starts : List 
   pub actors-long : length actors ≡ ACTORS
   pub firings-long : length firings ≡ ACTORS
   pub starts-long : length starts ≡ ACTORS
-  pub wcet : (i : ℕ) → i < ACTORS → actorAt actors i .wcet .0 ≤ MOST-WCET .0
+  pub wcet : (i : ℕ) → i < ACTORS → actorIn actors i .wcet .0 ≤ MOST-WCET .0
   pub few : (i : ℕ) → i < ACTORS → firingsAt firings i .0 ≤ MOST-FIRINGS .0
 
 -- whether an actor is on processor p and starts at one of the ticks from a to b
@@ -47,19 +47,19 @@ countedOf actor firings start p a b = cond (between actor start p a b) (workOf (
 -- the work of all such actors
 abbrev pub workBetween : List Actor → List Firing → List Tick → ℕ → Tick → Tick → Tick
 workBetween actors firings starts p a b =
-    tick (sum (λ i. countedOf (actorAt actors i) (firingsAt firings i) (tickAt starts i) p a b .0) ACTORS)
+    tick (sum (λ i. countedOf (actorIn actors i) (firingsAt firings i) (tickAt starts i) p a b .0) ACTORS)
 
 -- for each actor, on its processor: the work of those that start no earlier, and of those that start no later
 abbrev pub sincesOf : List Actor → List Firing → List Tick → Tick → List Tick
 sincesOf actors firings starts startup =
-    tab ACTORS (λ i. workBetween actors firings starts (actorAt actors i .processor) (tickAt starts i) startup)
+    tab ACTORS (λ i. workBetween actors firings starts (actorIn actors i .processor) (tickAt starts i) startup)
 
 abbrev pub untilsOf : List Actor → List Firing → List Tick → List Tick
-untilsOf actors firings starts = tab ACTORS (λ i. workBetween actors firings starts (actorAt actors i .processor) (tick 0) (tickAt starts i))
+untilsOf actors firings starts = tab ACTORS (λ i. workBetween actors firings starts (actorIn actors i .processor) (tick 0) (tickAt starts i))
 
 -- a mode with these numbers, as it runs
-abbrev pub preparedOf : ℕ → List Actor → Tick → List Firing → List Tick → List Tick → Tick → Running
-preparedOf active actors iteration firings periods starts startup =
+abbrev pub preparedOf : ℕ → List Actor → Tick → List Firing → List Tick → List Tick → Tick → Tick → Running
+preparedOf active actors iteration firings periods starts sinkStart startup =
     record {
       active = active;
       actors = actors;
@@ -67,6 +67,7 @@ preparedOf active actors iteration firings periods starts startup =
       firings = firings;
       periods = periods;
       starts = starts;
+      «sink_start» = sinkStart;
       startup = startup;
       since = sincesOf actors firings starts startup;
       until = untilsOf actors firings starts;

@@ -15,7 +15,7 @@ ghost use Rattle.change.specs.Work.{Fitting, preparedOf};
 ghost use Rattle.change.specs.Change.{Changes};
 ghost use Rattle.change.specs.Running.{timesIn, Ready};
 
-// A mode as it runs: its active actors, their firings, periods and starts, its iteration, and the tick at which its start-up ends.
+// A mode as it runs: its active actors, their firings, periods and starts, its iteration, the tick set for the sink's first firing, and the tick at which its start-up ends.
 // Of each actor's processor: the work in an iteration of the actors that start no earlier than this one, and of those that start no later.
 pub struct Running {
     pub active: u16,
@@ -24,6 +24,7 @@ pub struct Running {
     pub firings: [Firing; ACTORS],
     pub periods: [Tick; ACTORS],
     pub starts: [Tick; ACTORS],
+    pub sink_start: Tick,
     pub startup: Tick,
     pub since: [Tick; ACTORS],
     pub until: [Tick; ACTORS],
@@ -44,10 +45,11 @@ pub fn prepare(
     firings: [Firing; ACTORS],
     periods: [Tick; ACTORS],
     starts: [Tick; ACTORS],
+    sink_start: Tick,
     startup: Tick,
 ) -> Running
     requires { ⌜ Fitting actors firings starts ⌝ }
-    ensures { λ r. ⌜ r ≡ preparedOf active actors iteration firings periods starts startup ⌝ }
+    ensures { λ r. ⌜ r ≡ preparedOf active actors iteration firings periods starts «sink_start» startup ⌝ }
 {
     Running {
         active: active,
@@ -56,6 +58,7 @@ pub fn prepare(
         firings: firings,
         periods: periods,
         starts: starts,
+        sink_start: sink_start,
         startup: startup,
         since: sinces(actors, firings, starts, startup),
         until: untils(actors, firings, starts),
@@ -73,7 +76,7 @@ pub fn change(old: Running, new: Running) -> Timing
         overlap: overlap,
         offset: offset,
         worst: offset
-            .plus(new.startup)
+            .plus(new.sink_start)
             .plus(old.iteration)
             .minus(Tick::ONE),
     }

@@ -66,12 +66,12 @@ pub(crate) fn offset_of(old: Running, new: Running) -> Tick
         let left = Side {
             processor: before.processor,
             start: old.starts[i],
-            asked: period::part(old.since[i], old.iteration),
+            asked: period::share(old.since[i], old.iteration),
         };
         let entered = Side {
             processor: after.processor,
             start: new.starts[j],
-            asked: period::part(new.until[j], new.iteration),
+            asked: period::share(new.until[j], new.iteration),
         };
         most = most.greater(wait(left, entered));
     }

@@ -22,7 +22,7 @@ use Rattle.units.specs.declared.Tick.{Tick}
 use Rattle.units.specs.Ticks.{tick, plusTicks}
 use Rattle.units.specs.Bounds.{MOST-CYCLES}
 use Rattle.units.specs.Limits.{ACTORS, PHASES, MOST-WCET, PROCESSORS, LOAD-LIMIT}
-use Rattle.period.specs.Period.{partOf}
+use Rattle.period.specs.Period.{periodOf, shareOf}
 use Rattle.terms.specs.Place.{numberOf}
 use Rattle.tables.specs.declared.Actor.{Actor}
 use Rattle.tables.specs.declared.Mode.{Mode}
@@ -36,18 +36,18 @@ use Rattle.graph.specs.Lengths.{Light, firingsIn, worksIn, shareFrom, sh
 use Rattle.graph.proofs.Lasting.{works-at}
 
 -- the ticks of an iteration that processor p works
-abbrev shareOf : Mode → (ℕ → ℕ) → ℕ → Tick
-shareOf m x p = tick (sum (λ i. cond (isOn m p i) (workIn m x i .0) 0) ACTORS)
+abbrev workedOn : Mode → (ℕ → ℕ) → ℕ → Tick
+workedOn m x p = tick (sum (λ i. cond (isOn m p i) (workIn m x i .0) 0) ACTORS)
 
 -- whether the load of the processor at place p is found to be above the limit
 abbrev pub overb : List Tick → Tick → ℕ → Bool
-overb shares h p = not (atMostb (partOf (getD shares p (tick 0)) h) LOAD-LIMIT)
+overb shares h p = not (atMostb (shareOf (getD shares p (tick 0)) h) LOAD-LIMIT)
 
 -- one processor more, as a loop counts
-pub over-next : (shares : List Tick) (h : Tick) (p : ℕ) (a : Fraction) (r : Bool) → p < PROCESSORS → a ≡ partOf (getD shares p (tick 0)) h → Decides (AtMost a LOAD-LIMIT) r
+pub over-next : (shares : List Tick) (h : Tick) (p : ℕ) (a : Fraction) (r : Bool) → p < PROCESSORS → a ≡ shareOf (getD shares p (tick 0)) h → Decides (AtMost a LOAD-LIMIT) r
     → lowestOr (overb shares h) PROCESSORS (PROCESSORS - p) p ≡ cond (not r) p (lowestOr (overb shares h) PROCESSORS (PROCESSORS - (p + 1)) (p + 1))
 over-next shares h p a r l e d =
-    let test : atMostb (partOf (getD shares p (tick 0)) h) LOAD-LIMIT ≡ r
+    let test : atMostb (shareOf (getD shares p (tick 0)) h) LOAD-LIMIT ≡ r
     = ap (λ (f : Fraction). atMostb f LOAD-LIMIT) (sym e) ∙ decides-unique (atMostb a LOAD-LIMIT) r (at-most-decides a LOAD-LIMIT) d in
     lowest-next (overb shares h) PROCESSORS PROCESSORS p l ∙ rw test
 
@@ -96,20 +96,23 @@ module _ (m : Mode) (proper : ProperMode m) (x : List ℕ) (counted : Counted m 
       go false e false ih = omega arith
 
   module _ (h : Tick) (iteration : Iteration m X h) (p : ℕ) where
+    abbrev periods : ℕ → Tick
+    periods i = periodOf h (firingsOf m X i)
+
     -- what an actor asks of its processor is its work, as a part of the iteration
-    asked-same : (i : ℕ) → i < ACTORS → Same (cond (isOn m p i) (askedBy m X h i) nothing) (record { over = cond (isOn m p i) (workIn m X i .0) 0; under = h .0 })
+    asked-same : (i : ℕ) → i < ACTORS → Same (cond (isOn m p i) (askedBy m periods i) nothing) (record { over = cond (isOn m p i) (workIn m X i .0) 0; under = h .0 })
     asked-same i l = go (hasb (m .active) i) refl (eqb (actorAt m i .processor) p)
       where
-        go : (a : Bool) → hasb (m .active) i ≡ a → (b : Bool) → Same (cond (a && b) (askedBy m X h i) nothing) (record { over = cond (a && b) (workIn m X i .0) 0; under = h .0 })
+        go : (a : Bool) → hasb (m .active) i ≡ a → (b : Bool) → Same (cond (a && b) (askedBy m periods i) nothing) (record { over = cond (a && b) (workIn m X i .0) 0; under = h .0 })
         go true e true =
             omega (arith, ap (λ (t : ℕ). actorAt m i .wcet .0 * t) (period-whole m X iteration i (l, decides-true (has-decides (m .active) i) e)))
         go true e false = omega arith
         go false e b = omega arith
 
-    asked-proper : (i : ℕ) → i < ACTORS → Proper (cond (isOn m p i) (askedBy m X h i) nothing)
+    asked-proper : (i : ℕ) → i < ACTORS → Proper (cond (isOn m p i) (askedBy m periods i) nothing)
     asked-proper i l = go (hasb (m .active) i) refl (eqb (actorAt m i .processor) p)
       where
-        go : (a : Bool) → hasb (m .active) i ≡ a → (b : Bool) → Proper (cond (a && b) (askedBy m X h i) nothing)
+        go : (a : Bool) → hasb (m .active) i ≡ a → (b : Bool) → Proper (cond (a && b) (askedBy m periods i) nothing)
         go true e true =
             let a = decides-true (has-decides (m .active) i) e in
             lt-of-lt-of-le (proper .actor i l a .some-tick) (period-fits m proper X (counted .some) iteration i (l, a))
@@ -117,19 +120,19 @@ module _ (m : Mode) (proper : ProperMode m) (x : List ℕ) (counted : Counted m 
         go false e b = omega arith
 
     -- so a load is within the limit exactly when the share is
-    load-share : AtMost (loadOf m X h p) LOAD-LIMIT ↔ AtMost (partOf (shareOf m X p) h) LOAD-LIMIT
+    load-share : AtMost (loadOf m X h p) LOAD-LIMIT ↔ AtMost (shareOf (workedOn m X p) h) LOAD-LIMIT
     load-share =
-        same-at-most (loadOf m X h p) (partOf (shareOf m X p) h) LOAD-LIMIT
-        (sum-proper (λ i. cond (isOn m p i) (askedBy m X h i) nothing) ACTORS asked-proper)
+        same-at-most (loadOf m X h p) (shareOf (workedOn m X p) h) LOAD-LIMIT
+        (sum-proper (λ i. cond (isOn m p i) (askedBy m periods i) nothing) ACTORS asked-proper)
         (iteration-pos m proper X (counted .some) iteration)
-        (sum-common (λ i. cond (isOn m p i) (askedBy m X h i) nothing) (λ i. cond (isOn m p i) (workIn m X i .0) 0) (h .0) ACTORS asked-same)
+        (sum-common (λ i. cond (isOn m p i) (askedBy m periods i) nothing) (λ i. cond (isOn m p i) (workIn m X i .0) 0) (h .0) ACTORS asked-same)
 
     -- the test answers whether it is
     pub over-is : (q : ℕ) → q < PROCESSORS → p ≡ numberOf q → Decides (Overloaded m X h q) (overb shares h q)
     over-is q l e =
-        let s : getD shares q (tick 0) ≡ shareOf m X p
-        = getD-tab PROCESSORS (λ p. shareFrom (m .actors) ws (numberOf p) ACTORS) q (tick 0) l ∙ (λ i. tick (share-is (numberOf q) ACTORS (le-refl ACTORS) i)) ∙ ap (shareOf m X) (sym e) in
-        let d = decides-not (atMostb (partOf (getD shares q (tick 0)) h) LOAD-LIMIT) (at-most-decides (partOf (getD shares q (tick 0)) h) LOAD-LIMIT) in (
+        let s : getD shares q (tick 0) ≡ workedOn m X p
+        = getD-tab PROCESSORS (λ p. shareFrom (m .actors) ws (numberOf p) ACTORS) q (tick 0) l ∙ (λ i. tick (share-is (numberOf q) ACTORS (le-refl ACTORS) i)) ∙ ap (workedOn m X) (sym e) in
+        let d = decides-not (atMostb (shareOf (getD shares q (tick 0)) h) LOAD-LIMIT) (at-most-decides (shareOf (getD shares q (tick 0)) h) LOAD-LIMIT) in (
           (λ t. record { processor = l; above = λ a. d .0 t (rw s (load-share .0 (rw e a))) }),
           (λ o. d .1 (λ a. o .above (rw e at (load-share .1 (rw s at a))))),
         )

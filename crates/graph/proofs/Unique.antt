@@ -57,7 +57,7 @@ module _ (m : Mode) where
 
   module _ (x y : ℕ → ℕ) (same : (i : ℕ) → Active m i → x i ≡ y i) where
     load-same : (h : Tick) (p : ℕ) → loadOf m x h p ≡ loadOf m y h p
-    load-same h p = sum-alike _ _ ACTORS (λ i l. on-actors (askedBy m x h) (askedBy m y h) nothing p i l (λ a. ap (λ (n : ℕ). askedBy m (λ (j : ℕ). n) h i) (same i a)))
+    load-same h p = sum-alike _ _ ACTORS (λ i l. on-actors (askedBy m (λ i. periodOf h (firingsOf m x i))) (askedBy m (λ i. periodOf h (firingsOf m y i))) nothing p i l (λ a. ap (λ (n : ℕ). askedBy m (λ (k : ℕ). periodOf h (firingsOf m (λ (j : ℕ). n) k)) i) (same i a)))
 
     over-same : (h : Tick) (p : ℕ) → Overloaded m x h p → Overloaded m y h p
     over-same h p o = record { processor = o .processor; above = subst (λ f. AtMost f LOAD-LIMIT → ⊥) (load-same h (numberOf p)) (o .above) }

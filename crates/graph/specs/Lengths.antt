@@ -19,7 +19,7 @@ use Rattle.period.specs.declared.Firings.{Firings}
 use Rattle.period.specs.declared.Firings.the-variants.{Are, Above}
 use Rattle.period.specs.declared.Length.{Length}
 use Rattle.period.specs.declared.Length.the-variants.{Above as TooLong}
-use Rattle.period.specs.Period.{workOf, periodOf, partOf}
+use Rattle.period.specs.Period.{workOf, periodOf, shareOf}
 use Rattle.period.specs.Reckoned.{commonOf, iterationOf}
 use Rattle.rate.specs.Rate.{cyclesOf}
 use Rattle.terms.specs.Place.{numberOf}
@@ -86,4 +86,4 @@ abbrev pub sharesIn : List Actor → List Tick → List Tick
 sharesIn acts ws = tab PROCESSORS (λ p. shareFrom acts ws (numberOf p) ACTORS)
 
 abbrev pub overloadedOf : List Tick → Tick → ℕ
-overloadedOf shares h = lowestOr (λ p. not (atMostb (partOf (getD shares p (tick 0)) h) LOAD-LIMIT)) PROCESSORS PROCESSORS 0
+overloadedOf shares h = lowestOr (λ p. not (atMostb (shareOf (getD shares p (tick 0)) h) LOAD-LIMIT)) PROCESSORS PROCESSORS 0

@@ -44,7 +44,7 @@ pub(crate) fn overloaded(shares: [Tick; PROCESSORS], iteration: Tick) -> usize
     ensures { λ r. ⌜ r ≡ overloadedOf shares iteration ⌝ }
 {
     for p in 0..PROCESSORS {
-        if !at_most(period::part(shares[p], iteration), LOAD_LIMIT) {
+        if !at_most(period::share(shares[p], iteration), LOAD_LIMIT) {
             return p;
         }
     }

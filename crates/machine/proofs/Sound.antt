@@ -1,6 +1,6 @@
 -- The plan of a table is sound, so demand 3 holds of it. Assumes nothing.
-use mathlib.Core.Path.{_≡_, refl, ap, subst}
-use mathlib.Core.Bool.{Bool, true, false, not, cond, _&&_}
+use mathlib.Core.Path.{_≡_, refl, sym, ap, subst}
+use mathlib.Core.Bool.{Bool, true, false, not, cond, _&&_, and-true}
 use mathlib.Core.Logic.{_≢_}
 use Prim.Native.Nat.{ℕ, suc, _+_, _-_, _*_, _≤_, _<_}
 use native.Mathlib.Omega.{arith}
@@ -18,13 +18,12 @@ use Rattle.units.specs.Firings.{firing}
 use Rattle.units.specs.declared.Tick.{Tick}
 use Rattle.units.specs.Ticks.{tick}
 use Rattle.tables.specs.declared.Table.{Table}
-use Rattle.tables.specs.Proper.{ProperTable}
-use Rattle.change.specs.declared.Running.{Running}
-use Rattle.change.specs.Change.{starts-after}
-use Rattle.change.specs.Running.{Changes, Ready, timesIn, actorIn, askedBy as asks, askedOf as asksOf}
+use Rattle.tables.specs.Shape.{actorAt, Active}
+use Rattle.tables.specs.Proper.{ProperActor, ProperTable}
+use Rattle.graph.specs.Load.{askedBy}
+use Rattle.change.specs.Change.{ModeTimes, Changes, periodIn, askedOn, starts-after}
 use Rattle.planning.specs.declared.Plan.{Plan}
-use Rattle.planning.specs.Steps.{runningOf}
-use Rattle.planning.specs.Plan.{Listed, changeAt, Planned}
+use Rattle.planning.specs.Plan.{Listed, changeAt, timesOf, Planned}
 use Rattle.planning.proofs.Running.{listed-some, listed-none}
 use Rattle.run.specs.Plan.{Acts, startup}
 use Rattle.run.specs.Machine.{worst}
@@ -47,19 +46,19 @@ processor-or-not q = go (decLe 1 q) (decLe q PROCESSORS)
     go (yes a) (no b) = no (λ h. b (h .1))
 
 -- of any other number nothing is asked
-nowhere : (r : Running) → Ready r → (q : ℕ) → (Processor q → ⊥) → (counts : ℕ → Bool) → asksOf r q counts .over ≡ 0
-nowhere r ready q n counts =
+nowhere : (r : ModeTimes) → ((i : ℕ) → Active (r .mode) i → ProperActor (actorAt (r .mode) i)) → (q : ℕ) → (Processor q → ⊥) → (counts : ℕ → Bool) → askedOn r q counts .over ≡ 0
+nowhere r proper q n counts =
     omega (
       arith,
-      sum-common _ (λ i. 0) 1 ACTORS (λ i l. go i l (hasb (r .active) i) refl (eqb (actorIn r i .processor) q) refl (counts i)),
-      ap (λ (s : ℕ). s * asksOf r q counts .under) (sum-none (λ i. 0) ACTORS (λ i l. refl)),
+      sum-common _ (λ i. 0) 1 ACTORS (λ i l. go i l (hasb (r .mode .active) i) refl (eqb (actorAt (r .mode) i .processor) q) refl (counts i)),
+      ap (λ (s : ℕ). s * askedOn r q counts .under) (sum-none (λ i. 0) ACTORS (λ i l. refl)),
     )
   where
-    go : (i : ℕ) → i < ACTORS → (a : Bool) → hasb (r .active) i ≡ a → (b : Bool) → eqb (actorIn r i .processor) q ≡ b → (c : Bool)
-        → cond ((a && b) && c) (asks r i) nothing .over * 1 ≡ 0 * cond ((a && b) && c) (asks r i) nothing .under
+    go : (i : ℕ) → i < ACTORS → (a : Bool) → hasb (r .mode .active) i ≡ a → (b : Bool) → eqb (actorAt (r .mode) i .processor) q ≡ b → (c : Bool)
+        → cond ((a && b) && c) (askedBy (r .mode) (periodIn r) i) nothing .over * 1 ≡ 0 * cond ((a && b) && c) (askedBy (r .mode) (periodIn r) i) nothing .under
     go i l true e true f c =
-        let p = ready .actor i (l, decides-true (has-decides (r .active) i) e) in
-        let is = eqb-true (actorIn r i .processor) q f in
+        let p = proper i (l, decides-true (has-decides (r .mode .active) i) e) in
+        let is = eqb-true (actorAt (r .mode) i .processor) q f in
         absurd (n (subst Processor is (p .some-processor, p .processor)))
     go i l true e false f c = omega arith
     go i l false e b f c = omega arith
@@ -83,15 +82,15 @@ module _ (t : Table) (proper : ProperTable t) where
   is-listed m some l = listed m .1 (some, (omega (arith, some, l .0), listed-none t (m - 1) l))
 
 module _ (t : Table) (w : Plan) (proper : ProperTable t) (planned : Planned t w) where
-  abbrev running : ℕ → Running
-  running m = runningOf (modeOf t m) (partOf w m)
+  abbrev times : ℕ → ModeTimes
+  times m = timesOf (modeOf t m) (partOf w m)
 
   -- each of them is planned
   pub runs : (m : ℕ) → T (isListed t m) → Runs (modeOf t m) (partOf w m)
   runs m h = let (some, l) = listed-is t proper m h in mode-runs (modeOf t m) (proper .mode (m - 1) (l .0)) (partOf w m) (planned .part (m - 1) (l .0) .listed l)
 
   -- and so is each change between two of them
-  pub changes : (o l : ℕ) → T (isListed t o) → T (isListed t l) → l ≢ o → Changes (running o) (running l) (changeAt w (o - 1) (l - 1))
+  pub changes : (o l : ℕ) → T (isListed t o) → T (isListed t l) → l ≢ o → Changes (times o) (times l) (changeAt w (o - 1) (l - 1))
   changes o l ho hl other =
       let (a, old) = listed-is t proper o ho in
       let (b, new) = listed-is t proper l hl in
@@ -105,7 +104,7 @@ module _ (t : Table) (w : Plan) (proper : ProperTable t) (planned : Planned t w)
   startup-is m h = ap (λ (s : Tick). s .0) (runs m h .sink)
 
   pub worst-is : (o l : ℕ) → T (isListed t o) → T (isListed t l) → l ≢ o → worst (planOf t w) o l ≡ changeAt w (o - 1) (l - 1) .worst .0
-  worst-is o l ho hl other = omega (arith, startup-is l hl, ap (λ (s : Tick). s .0) (changes o l ho hl other .worst))
+  worst-is o l ho hl other = ap (λ (s : Tick). s .0) (sym (changes o l ho hl other .worst))
 
   -- start-ups, iterations and offsets are short
   pub startup-short : (m : ℕ) → T (isListed t m) → startup (planOf t w) m ≤ MOST-START .0
@@ -135,17 +134,17 @@ module _ (t : Table) (w : Plan) (proper : ProperTable t) (planned : Planned t w)
         sized = λ m c h l x b e v begun ended claimed. runs m h .size c l .greatest v (tick x, (firing b, firing e, begun, ended, claimed));
         load = λ m q h. alone m q h (processor-or-not q);
         change = λ o l q k ho hl other d s. together o l q k ho hl other d s (processor-or-not q);
-        waits = λ o l i ho hl other a b. starts-after (timesIn (running o)) (timesIn (running l)) (changes o l ho hl other) i (acts o i a) (acts l i b);
+        waits = λ o l i ho hl other a b. starts-after (times o) (times l) (changes o l ho hl other) i (acts o i a) (acts l i b);
       }
     where
-      alone : (m q : ℕ) → T (isListed t m) → Dec (Processor q) → AtMost (asksOf (running m) q (λ i. true)) LOAD-LIMIT
-      alone m q h (yes p) = runs m h .ready .load q (p .0) (p .1)
-      alone m q h (no n) = omega (arith, nowhere (running m) (runs m h .ready) q n (λ i. true))
+      alone : (m q : ℕ) → T (isListed t m) → Dec (Processor q) → AtMost (askedOn (times m) q (λ i. true)) LOAD-LIMIT
+      alone m q h (yes p) = simp and-true (runs m h .ready .load q (p .0) (p .1))
+      alone m q h (no n) = omega (arith, nowhere (times m) (runs m h .ready .actor) q n (λ i. true))
 
       together : (o l q k : ℕ) → T (isListed t o) → T (isListed t l) → l ≢ o → planOf t w .offset o l ≤ k → k ≤ startup (planOf t w) o → Dec (Processor q)
-          → AtMost (plus (asksOf (running o) q (λ i. ltb k (planOf t w .start o i))) (asksOf (running l) q (λ i. leb (planOf t w .offset o l + planOf t w .start l i) k))) LOAD-LIMIT
+          → AtMost (plus (askedOn (times o) q (λ i. ltb k (planOf t w .start o i))) (askedOn (times l) q (λ i. leb (planOf t w .offset o l + planOf t w .start l i) k))) LOAD-LIMIT
       together o l q k ho hl other d s (yes p) = changes o l ho hl other .offset .holds .2 k q d (omega (arith, s, startup-is o ho)) (p .0) (p .1)
-      together o l q k ho hl other d s (no n) = neither _ _ (nowhere (running o) (runs o ho .ready) q n _) (nowhere (running l) (runs l hl .ready) q n _)
+      together o l q k ho hl other d s (no n) = neither _ _ (nowhere (times o) (runs o ho .ready .actor) q n _) (nowhere (times l) (runs l hl .ready .actor) q n _)
 
 pub demand : {t : Table} {w : Plan} → ProperTable t → Planned t w → RightRuns (planOf t w)
 demand {t} {w} proper planned = demand-3 (planOf t w) (sound t w proper planned)

@@ -30,7 +30,8 @@ use Rattle.schedule.specs.Model.{scheduleOf}
 use Rattle.schedule.proofs.Modelled.{schedule-scheduled}
 use Rattle.change.specs.declared.Running.{Running}
 use Rattle.change.specs.declared.Timing.{Timing}
-use Rattle.change.specs.Running.{worstOf, Ready}
+use Rattle.change.specs.Change.{worstOf}
+use Rattle.change.specs.Running.{timesIn, Ready}
 use Rattle.change.specs.Waits.{overlapOf, offsetFrom}
 use Rattle.change.proofs.Offsets.{found}
 use Rattle.planning.specs.declared.ModePlan.{ModePlan}
@@ -89,7 +90,7 @@ module _ (m : Mode) (n : ℕ) (proper : ProperMode m) where
 
 -- the change between two modes as they run, where there is one
 abbrev changeBy : Running → Running → Tick → Timing
-changeBy old new d = record { overlap = overlapOf old new; offset = d; worst = worstOf old new d }
+changeBy old new d = record { overlap = overlapOf old new; offset = d; worst = worstOf (timesIn old) (timesIn new) d }
 
 abbrev changeFor : Running → Running → ℕ → ℕ → Timing
 changeFor old new k l =

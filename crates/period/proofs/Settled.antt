@@ -14,8 +14,8 @@ use Rattle.period.proofs.iteration.Kinds as iteration-kinds
 use Rattle.period.proofs.iteration.Reads as iteration
 use Rattle.period.proofs.period.Kinds as period-kinds
 use Rattle.period.proofs.period.Reads as period
-use Rattle.period.proofs.part.Kinds as part-kinds
-use Rattle.period.proofs.part.Reads as part
+use Rattle.period.proofs.share.Kinds as share-kinds
+use Rattle.period.proofs.share.Reads as share
 
 begins-settled : Settles 0 begins-kinds.ps begins-kinds.r begins.Post
 begins-settled κs a x y s t p q = p ∙ sym q
@@ -35,5 +35,5 @@ iteration-settled κs a x y s t p q = within-unique _ _ _ x y p q
 period-settled : Settles 0 period-kinds.ps period-kinds.r period.Post
 period-settled κs a x y s t p q = p ∙ sym q
 
-part-settled : Settles 0 part-kinds.ps part-kinds.r part.Post
-part-settled κs a x y s t p q = p ∙ sym q
+share-settled : Settles 0 share-kinds.ps share-kinds.r share.Post
+share-settled κs a x y s t p q = p ∙ sym q

@@ -60,8 +60,8 @@ abbrev pub periodOf : Tick → Firing → Tick
 periodOf h q = tick (h .0 / q .0)
 
 -- a ticks of b, as a fraction
-abbrev pub partOf : Tick → Tick → Fraction
-partOf a b = record { over = a .0; under = b .0 }
+abbrev pub shareOf : Tick → Tick → Fraction
+shareOf a b = record { over = a .0; under = b .0 }
 
 -- the counts, where the start lies ahead and where it has passed
 module _ (start period by : Tick) where

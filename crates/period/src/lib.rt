@@ -7,7 +7,7 @@ use units::Firing;
 use units::Tick;
 ghost use mathlib.Core.Path.{_≡_};
 ghost use Prim.Native.Nat.{_^_, _<_};
-ghost use Rattle.period.specs.Period.{beginsAt, endsAt, workOf, CommonWithin, IterationWithin, periodOf, partOf};
+ghost use Rattle.period.specs.Period.{beginsAt, endsAt, workOf, CommonWithin, IterationWithin, periodOf, shareOf};
 
 // The tick at which firing n begins.
 pub fn begins(start: Tick, period: Tick, n: Firing) -> Tick
@@ -78,8 +78,8 @@ pub fn period(iteration: Tick, firings: Firing) -> Tick
 }
 
 // So many ticks of so many.
-pub fn part(ticks: Tick, of: Tick) -> Fraction
-    ensures { λ r. ⌜ r ≡ partOf ticks of ⌝ }
+pub fn share(ticks: Tick, of: Tick) -> Fraction
+    ensures { λ r. ⌜ r ≡ shareOf ticks of ⌝ }
 {
     Fraction {
         over: ticks.ticks(),

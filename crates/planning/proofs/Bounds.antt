@@ -196,7 +196,7 @@ module _ (t : Table) (proper : ProperTable t) where
               record {
                 overlap = omega (arith, d .offset .holds .0, d .offset .holds .1, part k hk .startup);
                 offset = omega (arith, d .offset .holds .1, part k hk .startup);
-                worst = rw (d .worst) (omega (arith, d .offset .holds .1, part k hk .startup, part l hl .startup, part k hk .iteration));
+                worst = rw (d .worst) (omega (arith, d .offset .holds .1, part k hk .startup, part l hl .starts (partAt w l .sink), part k hk .iteration));
               }
 
       at : (n : ℕ) → Dec (n < MODES * MODES) → SmallTiming (getD (w .changes) n noTiming)

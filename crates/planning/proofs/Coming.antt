@@ -59,7 +59,7 @@ module _ (t : Table) (proper : ProperTable t) (ps : List ModePlan) (cs : List Ti
   change-comes k l old new c hk hl e f between =
       let (changes, none) = subst₂ (λ (old new : Running). Between old new k l c) e f between in
       record {
-        leads = λ h. changes (listed-none t k (h .0)) (listed-none t l (h .1)) (h .2);
+        leads = λ h. let c = changes (listed-none t k (h .0)) (listed-none t l (h .1)) (h .2) in record { overlap = c .overlap; offset = c .offset; worst = c .worst };
         leads-not = λ n. none (λ h. n (listed-some t k proper hk (h .0), listed-some t l proper hl (h .1), h .2));
       }
 

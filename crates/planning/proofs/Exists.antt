@@ -27,7 +27,8 @@ use Rattle.schedule.specs.Model.{scheduleOf}
 use Rattle.schedule.proofs.Modelled.{schedule-scheduled}
 use Rattle.change.specs.declared.Running.{Running}
 use Rattle.change.specs.declared.Timing.{Timing}
-use Rattle.change.specs.Running.{worstOf, Ready}
+use Rattle.change.specs.Change.{worstOf}
+use Rattle.change.specs.Running.{timesIn, Ready}
 use Rattle.change.specs.Waits.{overlapOf, offsetFrom}
 use Rattle.change.proofs.Offsets.{found}
 use Rattle.planning.specs.declared.ModePlan.{ModePlan}
@@ -66,7 +67,7 @@ change-found old new k l ready-old ready-new = go (ℕ-discrete (old .active) 0)
     go (no a) (no b) (no c) =
         let (overlap, offset) = found old new (ready-old a) (ready-new b) refl refl refl in
         let d = greaterTick (overlapOf old new) (offsetFrom limitOf old new) in (
-          record { overlap = overlapOf old new; offset = d; worst = worstOf old new d },
+          record { overlap = overlapOf old new; offset = d; worst = worstOf (timesIn old) (timesIn new) d },
           ((λ x y z. record { overlap = overlap; offset = offset; worst = refl }), (λ n. absurd (n (a, b, c)))),
         )
 

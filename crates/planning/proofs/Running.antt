@@ -19,23 +19,24 @@ use Rattle.units.specs.declared.Tick.{Tick}
 use Rattle.units.specs.declared.Firing.{Firing}
 use Rattle.units.specs.Ticks.{tick}
 use Rattle.units.specs.Firings.{firing}
-use Rattle.period.specs.Period.{periodOf, partOf}
+use Rattle.period.specs.Period.{periodOf, shareOf}
 use Rattle.terms.specs.Place.{numberOf}
 use Rattle.tables.specs.declared.Mode.{Mode}
 use Rattle.tables.specs.declared.Table.{Table}
 use Rattle.tables.specs.Shape.{modeAt, actorAt, Active, noActor}
 use Rattle.tables.specs.Proper.{ProperMode, ProperTable}
 use Rattle.graph.specs.Balance.{firingsOf}
-use Rattle.graph.specs.Load.{Overloaded, askedBy, loadOf}
+use Rattle.graph.specs.Load.{Overloaded, isOn, askedBy, askedOf, loadOf}
 use Rattle.graph.specs.Judged.{ofActors}
 use Rattle.graph.specs.Laws.{iteration-pos, period-whole, period-fits}
 use Rattle.schedule.specs.Starts.{Late}
 use Rattle.schedule.proofs.Sound.{at-actor}
 use Rattle.change.specs.Work.{Fitting}
-use Rattle.change.specs.Running.{askedBy as asked, askedOf, Bearable, Ready}
+use Rattle.change.specs.Change.{periodIn, Bearable}
+use Rattle.change.specs.Running.{timesIn, Ready}
 use Rattle.planning.specs.declared.ModePlan.{ModePlan}
 use Rattle.planning.specs.Nothing.{noPart}
-use Rattle.planning.specs.Plan.{Listed, ModePlanned, IsPart}
+use Rattle.planning.specs.Plan.{Listed, ModePlanned, IsPart, timesOf}
 use Rattle.planning.specs.Steps.{noRunning, idleRunning, runningsOf, AllReady, FoundParts, runningOf}
 use Rattle.planning.proofs.Bounds.{mode-small, part-small}
 
@@ -69,16 +70,16 @@ module _ (m : Mode) (proper : ProperMode m) where
 
   -- what a mode asks of a processor as it runs is its load, which is not above the limit
   module _ (x : ℕ → ℕ) (p : ModePlan) (period : (i : ℕ) → Active m i → getD (p .periods) i (tick 0) ≡ periodOf (p .iteration) (firingsOf m x i)) where
-    asks : (q : ℕ) → askedOf (runningOf m p) q (λ i. true) ≡ loadOf m x (p .iteration) q
+    asks : (q : ℕ) → askedOf m (periodIn (timesOf m p)) (isOn m q) ≡ loadOf m x (p .iteration) q
     asks q = sum-alike _ _ ACTORS (λ i l. go i l (hasb (m .active) i) refl (eqb (actorAt m i .processor) q))
       where
         go : (i : ℕ) → i < ACTORS → (b : Bool) → hasb (m .active) i ≡ b → (c : Bool)
-            → cond ((b && c) && true) (asked (runningOf m p) i) nothing ≡ cond (b && c) (askedBy m x (p .iteration) i) nothing
-        go i l true e true = ap (partOf (actorAt m i .wcet)) (period i (l, decides-true (has-decides (m .active) i) e))
+            → cond (b && c) (askedBy m (periodIn (timesOf m p)) i) nothing ≡ cond (b && c) (askedBy m (λ i. periodOf (p .iteration) (firingsOf m x i)) i) nothing
+        go i l true e true = ap (shareOf (actorAt m i .wcet)) (period i (l, decides-true (has-decides (m .active) i) e))
         go i l true e false = refl
         go i l false e c = refl
 
-    borne : ((q : ℕ) → Overloaded m x (p .iteration) q → ⊥) → Bearable limitOf (runningOf m p)
+    borne : ((q : ℕ) → Overloaded m x (p .iteration) q → ⊥) → Bearable limitOf (timesIn (runningOf m p))
     borne bears q l h = subst (λ f. AtMost f LOAD-LIMIT) (sym (asks q)) (go (decLe _ _))
       where
         go : Dec (AtMost (loadOf m x (p .iteration) q) LOAD-LIMIT) → AtMost (loadOf m x (p .iteration) q) LOAD-LIMIT
@@ -100,6 +101,7 @@ module _ (m : Mode) (proper : ProperMode m) where
         period = λ i a. rw (period i a) (lt-of-lt-of-le (proper .actor i (a .0) (a .1) .some-tick) (period-fits m proper x some (n .iteration) i a));
         whole = λ i a. rw (period i a, firings i a) (mul-comm _ _ ∙ period-whole m x (n .iteration) i a);
         start = in-time (w .begin) (p .sink) _ _ (w .prompt) (w .starts) (w .startup);
+        sink-start = mode-small m p proper w .starts (p .sink);
         startup = mode-small m p proper w .startup;
         some-tick = iteration-pos m proper x some (n .iteration);
         iteration = n .within;

@@ -88,7 +88,7 @@ pub record IsPart (t : Table) (k : ℕ) (p : ModePlan) : Type 0 where
 
 -- a mode and what is planned of it, as a change sees them
 abbrev pub timesOf : Mode → ModePlan → ModeTimes
-timesOf m p = record { active = m .active; actors = m .actors; iteration = p .iteration; periods = p .periods; starts = p .starts; startup = p .startup }
+timesOf m p = record { mode = m; iteration = p .iteration; periods = p .periods; starts = p .starts; sinkStart = getD (p .starts) (p .sink) (tick 0); startup = p .startup }
 
 -- a change leads from a listed mode to another
 abbrev pub Leads : Table → ℕ → ℕ → Type 0

@@ -13,8 +13,9 @@ use Rattle.tables.specs.declared.Table.{Table}
 use Rattle.tables.specs.Shape.{modeAt, emptyMode}
 use Rattle.change.specs.declared.Running.{Running}
 use Rattle.change.specs.declared.Timing.{Timing}
+use Rattle.change.specs.Change.{Changes}
 use Rattle.change.specs.Work.{preparedOf}
-use Rattle.change.specs.Running.{Ready, Changes}
+use Rattle.change.specs.Running.{timesIn, Ready}
 use Rattle.graph.specs.declared.Judgement.{Judgement}
 use Rattle.schedule.specs.declared.Timetable.{Timetable}
 use Rattle.planning.specs.declared.ModePlan.{ModePlan}
@@ -60,7 +61,7 @@ AllCome t (IsRefused r) ps =
 
 -- a planned mode as it is kept to run
 abbrev pub runningOf : Mode → ModePlan → Running
-runningOf m p = preparedOf (m .active) (m .actors) (p .iteration) (p .firings) (p .periods) (p .starts) (p .startup)
+runningOf m p = preparedOf (m .active) (m .actors) (p .iteration) (p .firings) (p .periods) (p .starts) (getD (p .starts) (p .sink) (tick 0)) (p .startup)
 
 abbrev pub noRunning : Running
 noRunning =
@@ -71,6 +72,7 @@ noRunning =
       firings = [];
       periods = [];
       starts = [];
+      «sink_start» = tick 0;
       startup = tick 0;
       since = [];
       until = [];
@@ -94,7 +96,7 @@ pub record AllReady (rs : List Running) : Type 0 where
 -- the change from one running mode at place k to another at place l, where both have an actor; or none
 abbrev pub Between : Running → Running → ℕ → ℕ → Timing → Type 0
 Between old new k l c =
-    ((old .active ≡ 0 → ⊥) → (new .active ≡ 0 → ⊥) → (k ≡ l → ⊥) → Changes old new c)
+    ((old .active ≡ 0 → ⊥) → (new .active ≡ 0 → ⊥) → (k ≡ l → ⊥) → Changes (timesIn old) (timesIn new) c)
     × (((old .active ≡ 0 → ⊥) × (new .active ≡ 0 → ⊥) × (k ≡ l → ⊥) → ⊥) → c ≡ noTiming)
 
 -- at place n of all pairs

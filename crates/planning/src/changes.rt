@@ -45,6 +45,7 @@ fn idle() -> Running
         firings: [Firing::NONE; ACTORS],
         periods: [Tick::NONE; ACTORS],
         starts: [Tick::NONE; ACTORS],
+        sink_start: Tick::NONE,
         startup: Tick::NONE,
         since: [Tick::NONE; ACTORS],
         until: [Tick::NONE; ACTORS],
@@ -65,6 +66,7 @@ pub(crate) fn runnings_of(table: Table, parts: [ModePlan; MODES]) -> [Running; M
             let firings = part.firings;
             let periods = part.periods;
             let starts = part.starts;
+            let sink = part.sink;
             runnings[k] = prepare(
                 mode.active,
                 actors,
@@ -72,6 +74,7 @@ pub(crate) fn runnings_of(table: Table, parts: [ModePlan; MODES]) -> [Running; M
                 firings,
                 periods,
                 starts,
+                starts[sink],
                 part.startup,
             );
         }

@@ -4,15 +4,16 @@ use mathlib.Core.Path.{ap, _∙_}
 use native.Mathlib.Omega.{arith}
 use Rattle.units.specs.Limits.{limitOf}
 use Rattle.units.specs.declared.Tick.{Tick}
-use Rattle.change.specs.Running.{Overlap, Offset}
+use Rattle.change.specs.Change.{Overlap, Offset}
+use Rattle.change.specs.Running.{timesIn}
 use Rattle.change.proofs.Offsets.{found}
 use Rattle.change.proofs.change.Statement.{statement}
 use Rattle.change.proofs.change.Tie as tie
 
 -- the overlap and the offset
 times : (c : tie.After-greater)
-    → Overlap (c .before .before .before .args .old) (c .before .before .before .args .new) (c .before .before .overlap-of .result)
-    × Offset limitOf (c .before .before .before .args .old) (c .before .before .before .args .new) (c .before .before .overlap-of .result) (c .greater .result)
+    → Overlap (timesIn (c .before .before .before .args .old)) (timesIn (c .before .before .before .args .new)) (c .before .before .overlap-of .result)
+    × Offset limitOf (timesIn (c .before .before .before .args .old)) (timesIn (c .before .before .before .args .new)) (c .before .before .overlap-of .result) (c .greater .result)
 times c =
     let p = c .before .before .before .pre in
     found _ _ (p .0) (p .1) (c .before .before .overlap-of .ensures) (c .before .offset-of .ensures) (c .greater .ensures)
@@ -20,12 +21,12 @@ times c =
 plus-requires : tie.Need-plus-requires
 plus-requires c κs =
     let p = c .before .before .before .pre in
-    omega (arith, times c .1 .holds .1, p .0 .startup, p .1 .startup)
+    omega (arith, times c .1 .holds .1, p .0 .startup, p .1 .sink-start)
 
 plus-requires-2 : tie.Need-plus-requires-2
 plus-requires-2 c κs =
     let p = c .before .before .before .before .pre in
-    omega (arith, times (c .before) .1 .holds .1, p .0 .startup, p .1 .startup, p .0 .iteration, ap (λ (t : Tick). t .0) (c .plus .ensures))
+    omega (arith, times (c .before) .1 .holds .1, p .0 .startup, p .1 .sink-start, p .0 .iteration, ap (λ (t : Tick). t .0) (c .plus .ensures))
 
 returns : tie.Need-returns
 returns c =

@@ -24,8 +24,8 @@ loop-holds c = (omega arith, refl)
 wait-requires : tie.Need-wait-requires Inv-loop μ-loop
 wait-requires c κs =
     let l = c .before .before .before .before .before .before .before .before .before .before .before in (
-      rw (c .before .before .before .before .part .ensures) (since-part _ (l .before .pre .0) (l .loop .n / ACTORS) (omega arith)),
-      rw (c .part2 .ensures) (until-part _ (l .before .pre .1) (l .loop .n % ACTORS) (omega arith)),
+      rw (c .before .before .before .before .share .ensures) (since-part _ (l .before .pre .0) (l .loop .n / ACTORS) (omega arith)),
+      rw (c .share2 .ensures) (until-part _ (l .before .pre .1) (l .loop .n % ACTORS) (omega arith)),
     )
 
 loop-again : tie.Need-loop-again Inv-loop μ-loop
@@ -34,7 +34,7 @@ loop-again c =
     let l = t .before .loop in
     let p = c .before .before in (
       omega (arith, t .loop-test .taken),
-      c .greater .ensures ∙ ap₂ greaterTick (l .inv .1) (rw (p .before .before .before .before .part .ensures, p .part2 .ensures) at (c .before .wait .ensures))
+      c .greater .ensures ∙ ap₂ greaterTick (l .inv .1) (rw (p .before .before .before .before .share .ensures, p .share2 .ensures) at (c .before .wait .ensures))
           ∙ ap tick (sym (most-next (pairWait limitOf (t .before .before .args .t1) (t .before .before .args .t2)) (l .n))),
     )
 

@@ -5,13 +5,13 @@ use native.Mathlib.Omega.{arith}
 use Rattle.numbers.specs.Filled.{FilledBy, filled-none, filled-set, filled-all}
 use Rattle.units.specs.Limits.{ACTORS}
 use Rattle.units.specs.Ticks.{tick}
-use Rattle.change.specs.Work.{actorAt, tickAt, workBetween}
+use Rattle.change.specs.Work.{actorIn, tickAt, workBetween}
 use Rattle.change.proofs.work.sinces.Statement.{statement}
 use Rattle.change.proofs.work.sinces.Tie as tie
 
 abbrev Inv-loop : tie.InvT-loop
 Inv-loop firings startup actors starts since₀ i₀ since i =
-    FilledBy ACTORS (λ i. workBetween actors firings starts (actorAt actors i .processor) (tickAt starts i) startup) (tick 0) since i
+    FilledBy ACTORS (λ i. workBetween actors firings starts (actorIn actors i .processor) (tickAt starts i) startup) (tick 0) since i
 
 abbrev μ-loop : tie.MeasureT-loop
 μ-loop firings startup actors starts since₀ i₀ since i = ACTORS - i

@@ -5,13 +5,13 @@ use native.Mathlib.Omega.{arith}
 use Rattle.numbers.specs.Filled.{FilledBy, filled-none, filled-set, filled-all}
 use Rattle.units.specs.Limits.{ACTORS}
 use Rattle.units.specs.Ticks.{tick}
-use Rattle.change.specs.Work.{actorAt, tickAt, workBetween}
+use Rattle.change.specs.Work.{actorIn, tickAt, workBetween}
 use Rattle.change.proofs.work.untils.Statement.{statement}
 use Rattle.change.proofs.work.untils.Tie as tie
 
 abbrev Inv-loop : tie.InvT-loop
 Inv-loop firings actors starts until₀ i₀ until i =
-    FilledBy ACTORS (λ i. workBetween actors firings starts (actorAt actors i .processor) (tick 0) (tickAt starts i)) (tick 0) until i
+    FilledBy ACTORS (λ i. workBetween actors firings starts (actorIn actors i .processor) (tick 0) (tickAt starts i)) (tick 0) until i
 
 abbrev μ-loop : tie.MeasureT-loop
 μ-loop firings actors starts until₀ i₀ until i = ACTORS - i

@@ -6,14 +6,14 @@ use native.Mathlib.Omega.{arith}
 use Rattle.numbers.specs.Sum.{sum, sum-next}
 use Rattle.units.specs.Limits.{ACTORS}
 use Rattle.units.specs.Ticks.{tick, plusTicks}
-use Rattle.change.specs.Work.{actorAt, firingsAt, tickAt, countedOf}
+use Rattle.change.specs.Work.{actorIn, firingsAt, tickAt, countedOf}
 use Rattle.change.proofs.Loads.{work-fits}
 use Rattle.change.proofs.work.work_between.Statement.{statement}
 use Rattle.change.proofs.work.work_between.Tie as tie
 
 abbrev Inv-loop : tie.InvT-loop
 Inv-loop processor from to actors firings starts work₀ k₀ work k =
-    (k ≤ ACTORS) × (work ≡ tick (sum (λ i. countedOf (actorAt actors i) (firingsAt firings i) (tickAt starts i) processor from to .0) k))
+    (k ≤ ACTORS) × (work ≡ tick (sum (λ i. countedOf (actorIn actors i) (firingsAt firings i) (tickAt starts i) processor from to .0) k))
 
 abbrev μ-loop : tie.MeasureT-loop
 μ-loop processor from to actors firings starts work₀ k₀ work k = ACTORS - k

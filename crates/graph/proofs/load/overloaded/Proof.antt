@@ -18,14 +18,14 @@ abbrev μ-loop : tie.MeasureT-loop
 μ-loop iteration shares p₀ p = PROCESSORS - p
 
 at-most-requires : tie.Need-at-most-requires Inv-loop μ-loop
-at-most-requires c κs = (subst (λ (f : Fraction). 0 < f .under) (sym (c .part .ensures)) (c .before .before .before .before .pre .1), omega arith)
+at-most-requires c κs = (subst (λ (f : Fraction). 0 < f .under) (sym (c .share .ensures)) (c .before .before .before .before .pre .1), omega arith)
 
 returns : tie.Need-returns Inv-loop μ-loop
 returns c =
     let l = c .before .before .before .before .before .loop in
     let s = c .before .before .before .before .before .before .args in
     sym (l .inv .1
-    ∙ over-next (s .t1) (s .iteration) (l .p) (c .before .before .part .result) (c .before .at-most .result) (omega arith) (c .before .before .part .ensures) (c .before .at-most .ensures)
+    ∙ over-next (s .t1) (s .iteration) (l .p) (c .before .before .share .result) (c .before .at-most .result) (omega arith) (c .before .before .share .ensures) (c .before .at-most .ensures)
     ∙ rw (c .if1 .taken))
 
 loop-again : tie.Need-loop-again Inv-loop μ-loop
@@ -34,7 +34,7 @@ loop-again c =
     let s = c .before .before .before .before .before .before .args in (
       omega arith,
       l .inv .1
-          ∙ over-next (s .t1) (s .iteration) (l .p) (c .before .before .part .result) (c .before .at-most .result) (omega arith) (c .before .before .part .ensures) (c .before .at-most .ensures)
+          ∙ over-next (s .t1) (s .iteration) (l .p) (c .before .before .share .result) (c .before .at-most .result) (omega arith) (c .before .before .share .ensures) (c .before .at-most .ensures)
           ∙ rw (c .if1 .left),
     )
 
