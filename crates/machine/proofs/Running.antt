@@ -1,11 +1,10 @@
 -- What a planned mode has: it is ready for a change, and its channels are balanced, fed and given room. Assumes nothing.
 use mathlib.Core.Path.{_≡_, refl, sym, ap, subst₂, _∙_}
 use mathlib.Core.List.{List}
-use Prim.Native.Nat.{ℕ, _+_, _*_, _<_, _≤_}
+use Prim.Native.Nat.{ℕ, _+_, _*_, _<_}
 use native.Mathlib.Omega.{arith}
 use lib.ListN.{getD}
 use Rattle.numbers.specs.Sum.{sum, sum-rounds}
-use Rattle.units.specs.Bounds.{MOST-START}
 use Rattle.units.specs.declared.Tick.{Tick}
 use Rattle.units.specs.declared.Firing.{Firing}
 use Rattle.units.specs.declared.Token.{Token}
@@ -30,7 +29,7 @@ use Rattle.planning.specs.declared.ModePlan.{ModePlan}
 use Rattle.planning.specs.Steps.{runningOf}
 use Rattle.planning.specs.Plan.{ModePlanned}
 use Rattle.planning.proofs.Told.{judgementOf, planned-judged}
-use Rattle.planning.proofs.Bounds.{mode-small}
+use Rattle.planning.proofs.Bounds.{SmallPart, mode-small}
 use Rattle.planning.proofs.Running.{mode-ready}
 
 -- the tokens that channel k's producer makes in so many firings, and those that its consumer takes
@@ -42,9 +41,8 @@ takenIn m p k = sum (rateOf (ratesOf (consumerOf m (p .periods) k)))
 
 pub record Runs (m : Mode) (p : ModePlan) : Type 0 where
   pub ready : Ready (runningOf m p)
-  -- the start-up ends at the sink's start, and is not long
-  pub sink : tickAt (p .starts) (p .sink) ≡ p .startup
-  pub soon : p .startup .0 ≤ MOST-START .0
+  -- its numbers are small
+  pub small : SmallPart p
   -- on each channel, n iterations make as many tokens as they take
   pub balanced : (k : ℕ) → k < m .count → (n : ℕ)
       → madeIn m p k (n * firingsAt (p .firings) (channelAt m k .from) .0) ≡ takenIn m p k (n * firingsAt (p .firings) (channelAt m k .to) .0)
@@ -69,11 +67,9 @@ mode-runs m proper p w =
     let from : (k : ℕ) → k < m .count → Active m (channelAt m k .from) = λ k h. (proper .channel k h .from, proper .channel k h .from-active) in
     let to : (k : ℕ) → k < m .count → Active m (channelAt m k .to) = λ k h. (proper .channel k h .to, proper .channel k h .to-active) in
     let paced = ready m (judgementOf ds p) proper judged refl .paced in
-    let end = w .balanced .ends .1 .0 in
     record {
       ready = mode-ready m proper p w;
-      sink = start (p .sink) (end .0, end .1) ∙ sym (w .startup);
-      soon = mode-small m p proper w .startup;
+      small = mode-small m p proper w;
       balanced = λ k h r.
           cycles (producerOf m (p .periods) k) (paced k h .producer) _ (x (channelAt m k .from)) r (ap (λ (q : Firing). q .0) (firings _ (from k h)))
           ∙ ap (λ (v : Token). r * v .0) (w .balanced .smallest .balances .even k h)

@@ -25,7 +25,7 @@ use Rattle.change.specs.Change.{ModeTimes, Changes, periodIn, askedOn, starts-a
 use Rattle.planning.specs.declared.Plan.{Plan}
 use Rattle.planning.specs.Plan.{Listed, changeAt, timesOf, Planned}
 use Rattle.planning.proofs.Running.{listed-some, listed-none}
-use Rattle.run.specs.Plan.{Acts, startup}
+use Rattle.run.specs.Plan.{Acts}
 use Rattle.run.specs.Machine.{worst}
 use Rattle.run.specs.Demand.{RightRuns}
 use Rattle.run.proofs.Demand.{demand-3}
@@ -99,22 +99,19 @@ module _ (t : Table) (w : Plan) (proper : ProperTable t) (planned : Planned t w)
   acts : (m i : ℕ) → Acts (planOf t w) m i → (i < ACTORS) × Has (modeOf t m .active) i
   acts m i a = (a .0, has-decides (modeOf t m .active) i .0 (a .1))
 
-  -- the end of the start-up, and the worst delay
-  pub startup-is : (m : ℕ) → T (isListed t m) → startup (planOf t w) m ≡ partOf w m .startup .0
-  startup-is m h = ap (λ (s : Tick). s .0) (runs m h .sink)
-
+  -- the worst delay
   pub worst-is : (o l : ℕ) → T (isListed t o) → T (isListed t l) → l ≢ o → worst (planOf t w) o l ≡ changeAt w (o - 1) (l - 1) .worst .0
   worst-is o l ho hl other = ap (λ (s : Tick). s .0) (sym (changes o l ho hl other .worst))
 
   -- start-ups, iterations and offsets are short
-  pub startup-short : (m : ℕ) → T (isListed t m) → startup (planOf t w) m ≤ MOST-START .0
-  startup-short m h = omega (arith, startup-is m h, runs m h .soon)
+  pub startup-short : (m : ℕ) → T (isListed t m) → planOf t w .startup m ≤ MOST-START .0
+  startup-short m h = runs m h .small .startup
 
   pub iteration-short : (m : ℕ) → T (isListed t m) → planOf t w .iteration m ≤ ITERATION-LIMIT .0
   iteration-short m h = omega (arith, runs m h .ready .iteration)
 
   pub offset-short : (o l : ℕ) → T (isListed t o) → T (isListed t l) → l ≢ o → planOf t w .offset o l ≤ MOST-START .0
-  offset-short o l ho hl other = omega (arith, changes o l ho hl other .offset .holds .1, runs o ho .soon)
+  offset-short o l ho hl other = omega (arith, changes o l ho hl other .offset .holds .1, runs o ho .small .startup)
 
   pub sound : Sound (planOf t w)
   sound =
@@ -125,7 +122,7 @@ module _ (t : Table) (w : Plan) (proper : ProperTable t) (planned : Planned t w)
         room = λ m h. omega (arith, startup-short m h, iteration-short m h);
         some-period = λ m i h a. runs m h .ready .period i (acts m i a);
         filled = λ m i h a. runs m h .ready .whole i (acts m i a);
-        on-time = λ m i h a. omega (arith, startup-is m h, runs m h .ready .start i (a .0));
+        on-time = λ m i h a. runs m h .ready .start i (a .0);
         from-acts = λ m c h l.
             let p = proper .mode (m - 1) (listed-is t proper m h .1 .0) .channel c l in (p .from, has-decides (modeOf t m .active) _ .1 (p .from-active));
         to-acts = λ m c h l. let p = proper .mode (m - 1) (listed-is t proper m h .1 .0) .channel c l in (p .to, has-decides (modeOf t m .active) _ .1 (p .to-active));
@@ -141,9 +138,9 @@ module _ (t : Table) (w : Plan) (proper : ProperTable t) (planned : Planned t w)
       alone m q h (yes p) = simp and-true (runs m h .ready .load q (p .0) (p .1))
       alone m q h (no n) = omega (arith, nowhere (times m) (runs m h .ready .actor) q n (λ i. true))
 
-      together : (o l q k : ℕ) → T (isListed t o) → T (isListed t l) → l ≢ o → planOf t w .offset o l ≤ k → k ≤ startup (planOf t w) o → Dec (Processor q)
+      together : (o l q k : ℕ) → T (isListed t o) → T (isListed t l) → l ≢ o → planOf t w .offset o l ≤ k → k ≤ planOf t w .startup o → Dec (Processor q)
           → AtMost (plus (askedOn (times o) q (λ i. ltb k (planOf t w .start o i))) (askedOn (times l) q (λ i. leb (planOf t w .offset o l + planOf t w .start l i) k))) LOAD-LIMIT
-      together o l q k ho hl other d s (yes p) = changes o l ho hl other .offset .holds .2 k q d (omega (arith, s, startup-is o ho)) (p .0) (p .1)
+      together o l q k ho hl other d s (yes p) = changes o l ho hl other .offset .holds .2 k q d s (p .0) (p .1)
       together o l q k ho hl other d s (no n) = neither _ _ (nowhere (times o) (runs o ho .ready .actor) q n _) (nowhere (times l) (runs l hl .ready .actor) q n _)
 
 pub demand : {t : Table} {w : Plan} → ProperTable t → Planned t w → RightRuns (planOf t w)

@@ -12,7 +12,7 @@ use lib.Dec.{T, eqb}
 use Rattle.numbers.specs.Extreme.{Least, least-unique}
 use Rattle.numbers.specs.Quotient.{roundedOf, rounded-of}
 use Rattle.numbers.specs.Lowest.{sought, lowest-is, FirstPasses, NonePasses}
-use Rattle.units.specs.Limits.{MODES, CLOCK-LIMIT}
+use Rattle.units.specs.Limits.{MODES, ACTORS, CLOCK-LIMIT}
 use Rattle.units.specs.declared.Tick.{Tick}
 use Rattle.units.specs.Ticks.{tick}
 use Rattle.terms.specs.Refusal.{NO-MODE, SAME-MODE, PAST-CLOCK, UNENDED, NO-MACHINE}
@@ -21,11 +21,11 @@ use Rattle.tables.specs.declared.Table.{Table}
 use Rattle.tables.specs.Shape.{modeAt}
 use Rattle.tables.specs.Proper.{ProperTable}
 use Rattle.planning.specs.declared.Plan.{Plan}
-use Rattle.run.specs.Plan.{RunPlan}
+use Rattle.run.specs.Plan.{RunPlan, sinkStart}
 use Rattle.run.specs.Machine as Run
 use Rattle.run.proofs.Delay as Delay
 use Rattle.machine.specs.Plan.{modeOf, partOf, isListed, planOf}
-use Rattle.machine.proofs.Sound.{listed-is, is-listed, runs, startup-is, startup-short, iteration-short, offset-short}
+use Rattle.machine.proofs.Sound.{listed-is, is-listed, runs, startup-short, iteration-short, offset-short}
 use Rattle.planner.specs.Plans.{Leaves}
 use Rattle.planner.proofs.Leaving.{leaves-proper}
 use Rattle.machine.specs.declared.Machine.{Machine}
@@ -143,8 +143,9 @@ module _ {t : Table} {w : Plan} {words : List ℕ} (l : Leaves t w words) where
         record {
           some = runs t w proper p (m .mode) (a .old) .ready .some-tick;
           iteration = omega (arith, iteration-short t w proper p (m .mode) (a .old));
-          old = omega (arith, startup-is t w proper p (m .mode) (a .old), startup-short t w proper p (m .mode) (a .old));
-          new = omega (arith, startup-is t w proper p mode (a .new), startup-short t w proper p mode (a .new));
+          old = startup-short t w proper p (m .mode) (a .old);
+          new = startup-short t w proper p mode (a .new);
+          sink = let s = runs t w proper p mode (a .new) .small in s .starts (partOf w mode .sink);
           offset = omega (arith, offset-short t w proper p (m .mode) mode (a .old) (a .new) (a .other));
           clock = a .clock;
           started = omega (arith, a .ordered, a .settled);
@@ -161,13 +162,16 @@ module _ {t : Table} {w : Plan} {words : List ℕ} (l : Leaves t w words) where
 
     pub changed-is : changedOf m (courseOf w (m .mode) mode) mode clock ≡ accepting (planOf t w) m mode clock
     changed-is =
-        let old = sym (startup-is t w (leaves-proper l) (l .planned) (m .mode) (a .old)) in
-        let new = sym (startup-is t w (leaves-proper l) (l .planned) mode (a .new)) in
-        let d = planOf t w .offset (m .mode) mode in
+        let p = planOf t w in
+        let d = p .offset (m .mode) mode in
         λ i. record {
-          reply = Accepted (tick (left-is i + d + new i - clock .0));
-          machine = record { mode = mode; started = tick (left-is i + d); ended = tick (max (left-is i + old i) (left-is i + d + new i)) };
+          reply = Accepted (tick (left-is i + d + sinkStart p mode - clock .0));
+          machine = record { mode = mode; started = tick (left-is i + d); ended = tick (max (left-is i + p .startup (m .mode)) (left-is i + d + p .startup mode)) };
         }
+
+    -- the new sink's start is there to be read
+    pub sink-there : partOf w mode .sink < ACTORS
+    sink-there = runs t w (leaves-proper l) (l .planned) mode (a .new) .small .sink
 
     pub accepts : {x : Answer} → x ≡ changedOf m (courseOf w (m .mode) mode) mode clock → Answers words m mode clock x
     accepts x = subst (Answers words m mode clock) (sym (x ∙ changed-is)) (accepted l (Delay.accepts (planOf t w) (seen m) (asking mode clock) a))
@@ -180,6 +184,4 @@ module _ {t : Table} {w : Plan} {words : List ℕ} (l : Leaves t w words) where
   meant-named n k = record { lowest = λ e. absurd (n e); named = λ _. k }
 
   pub begins : {mode k : ℕ} → Meant t mode k → isListed t k ≡ true → Begins words mode (Begun (record { mode = k; started = tick 0; ended = partOf w k .startup }))
-  begins {mode} {k} m e =
-      subst (λ (s : ℕ). Begins words mode (Begun (record { mode = k; started = tick 0; ended = tick s })))
-      (startup-is t w (leaves-proper l) (l .planned) k (is-true e)) (begun l m (is-true e))
+  begins m e = begun l m (is-true e)

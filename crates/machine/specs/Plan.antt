@@ -41,6 +41,7 @@ planOf t w =
       period = λ m i. getD (partOf w m .periods) i (tick 0) .0;
       start = λ m i. getD (partOf w m .starts) i (tick 0) .0;
       iteration = λ m. partOf w m .iteration .0;
+      startup = λ m. partOf w m .startup .0;
       sink = λ m. partOf w m .sink;
       channels = λ m. modeOf t m .count;
       from = λ m c. channelAt (modeOf t m) c .from;

@@ -1,5 +1,6 @@
 -- Model of the machine's code: the lowest mode, and the change of a machine.
 use Prim.Native.Nat.{ℕ, _+_, _-_, _*_, _/_, _≤_, _<_}
+use lib.ListN.{getD}
 use Rattle.numbers.specs.Lowest.{lowestOr}
 use Rattle.units.specs.Bounds.{MOST-START}
 use Rattle.units.specs.Limits.{MODES, ITERATION-LIMIT, CLOCK-LIMIT}
@@ -20,7 +21,14 @@ abbrev pub lowestOf : Table → ℕ
 lowestOf t = lowestOr (isListed t) 0 MODES 1
 
 abbrev pub courseOf : Plan → ℕ → ℕ → Course
-courseOf w o l = record { iteration = partOf w o .iteration; old = partOf w o .startup; new = partOf w l .startup; offset = changeAt w (placeOf o) (placeOf l) .offset }
+courseOf w o l =
+    record {
+      iteration = partOf w o .iteration;
+      old = partOf w o .startup;
+      new = partOf w l .startup;
+      sink = getD (partOf w l .starts) (partOf w l .sink) (tick 0);
+      offset = changeAt w (placeOf o) (placeOf l) .offset;
+    }
 
 -- ticks so small that every sum fits
 pub record Near (m : Machine) (c : Course) (t : Tick) : Type 0 where
@@ -28,6 +36,7 @@ pub record Near (m : Machine) (c : Course) (t : Tick) : Type 0 where
   pub iteration : c .iteration .0 ≤ ITERATION-LIMIT .0
   pub old : c .old .0 ≤ MOST-START .0
   pub new : c .new .0 ≤ MOST-START .0
+  pub sink : c .sink .0 ≤ MOST-START .0
   pub offset : c .offset .0 ≤ MOST-START .0
   pub clock : t .0 ≤ CLOCK-LIMIT .0
   pub started : m .started .0 ≤ t .0
@@ -39,7 +48,7 @@ leftOf m c clock = tick (m .started .0 + (clock .0 - m .started .0 + c .iteratio
 abbrev pub changedOf : Machine → Course → ℕ → Tick → Answer
 changedOf m c mode clock =
     record {
-      reply = Accepted (tick (leftOf m c clock .0 + c .offset .0 + c .new .0 - clock .0));
+      reply = Accepted (tick (leftOf m c clock .0 + c .offset .0 + c .sink .0 - clock .0));
       machine = record {
         mode = mode;
         started = tick (leftOf m c clock .0 + c .offset .0);

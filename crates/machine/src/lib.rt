@@ -43,11 +43,12 @@ pub struct Answer {
     pub machine: Machine,
 }
 
-// The ticks of a change: the old mode's iteration, the ends of both start-ups, and the offset.
+// The ticks of a change: the old mode's iteration, the ends of both start-ups, the start of the new sink, and the offset.
 pub(crate) struct Course {
     pub iteration: Tick,
     pub old: Tick,
     pub new: Tick,
+    pub sink: Tick,
     pub offset: Tick,
 }
 
@@ -106,13 +107,14 @@ impl Machine {
             .per(iteration);
         let left = since.plus(iteration.times(times));
         let started = left.plus(course.offset);
-        let set = started.plus(course.new);
+        let set = started.plus(course.sink);
+        let settled = started.plus(course.new);
         Answer {
             reply: Reply::Accepted(set.minus(clock)),
             machine: Machine {
                 mode,
                 started,
-                ended: left.plus(course.old).greater(set),
+                ended: left.plus(course.old).greater(settled),
             },
         }
     }

@@ -10,7 +10,7 @@ use lib.Dec.{T, leb, eqb, leb→le, ltb→lt, eqb→eq}
 use lib.Ieee.Fits.{and-l, and-r}
 use Rattle.numbers.specs.Every.{Every}
 use Rattle.numbers.specs.Quotient.{roundedOf}
-use Rattle.run.specs.Plan.{RunPlan, startup}
+use Rattle.run.specs.Plan.{RunPlan}
 use Rattle.run.specs.Machine.{Machine, Request, refusal, leaving, changed, Leave, stays, leaves, Visit, visit, Run, begin, answer, run}
 use Rattle.run.specs.Firing.{isOpen, total, openIn}
 use Rattle.run.specs.Demand.{EveryRun}
@@ -26,7 +26,7 @@ pub record Link (p : RunPlan) (b : Machine) (f : ℕ) (c : Machine) : Type 0 whe
   pub iterations : Whole (leaves f) (b .started) (p .iteration (b .mode))
   pub settled : b .ended ≤ f
   pub started : c .started ≡ f + p .offset (b .mode) (c .mode)
-  pub ended : f + startup p (b .mode) ≤ c .ended
+  pub ended : f + p .startup (b .mode) ≤ c .ended
 
 -- a machine and the visits before it
 pub data Linked (p : RunPlan) : Machine → List Visit → Type 0 where
@@ -93,7 +93,7 @@ module _ (p : RunPlan) (t : ℕ) where
   past-closed : {c : Machine} {vs : List Visit} → Linked p c vs → c .ended ≤ t → Every Closed vs
   past-closed (first h) le = tt
   past-closed (later {b = b} {f = f} lk k) le = (
-    (λ u. omega (arith, ltb→lt t (f + startup p (b .mode)) (and-r (leb (b .started) t) _ u), k .ended)),
+    (λ u. omega (arith, ltb→lt t (f + p .startup (b .mode)) (and-r (leb (b .started) t) _ u), k .ended)),
     past-closed lk (omega (arith, k .settled, k .ended)),
   )
 

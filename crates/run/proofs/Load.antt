@@ -11,7 +11,7 @@ use Rattle.numbers.specs.Sum.{sum, sum-le, sum-none}
 use Rattle.numbers.specs.Fraction.{Proper, AtMost, Same, plus, sum-proper, sum-common, nothing}
 use Rattle.numbers.specs.declared.fraction.Fraction.{Fraction}
 use Rattle.units.specs.Limits.{LOAD-LIMIT}
-use Rattle.run.specs.Plan.{RunPlan, Acts, startup, worksOn, wcetOverPeriod}
+use Rattle.run.specs.Plan.{RunPlan, Acts, worksOn, wcetOverPeriod}
 use Rattle.run.specs.Machine.{Leave, stays, leaves, Visit}
 use Rattle.run.specs.Firing.{fires, underWay, before, isOpen, tally, asks}
 use Rattle.run.proofs.Sound.{Sound, askedOf}
@@ -60,11 +60,11 @@ module _ (p : RunPlan) (ok : Sound p) (m s : ℕ) (yes-listed : T (p .listed m))
   pub works-open : (l : Leave) (i t : ℕ) → Acts p m i → T (works p (at m s l) i t) → T (isOpen p t (at m s l))
   works-open l i t a u =
       let b : s + p .start m i ≤ t = leb→le (s + p .start m i) t (and-l (leb (s + p .start m i) t) _ u) in
-      and-i (leb s t) (before l (startup p m) t) (le→leb s t (omega arith)) (later l (and-r (leb (s + p .start m i) t) _ u))
+      and-i (leb s t) (before l (p .startup m) t) (le→leb s t (omega arith)) (later l (and-r (leb (s + p .start m i) t) _ u))
     where
-      later : (l : Leave) → T (before l (p .start m i) t) → T (before l (startup p m) t)
+      later : (l : Leave) → T (before l (p .start m i) t) → T (before l (p .startup m) t)
       later stays h = tt
-      later (leaves f) h = lt→ltb t (f + startup p m) (omega (arith, ltb→lt t (f + p .start m i) h, ok .on-time m i yes-listed a))
+      later (leaves f) h = lt→ltb t (f + p .startup m) (omega (arith, ltb→lt t (f + p .start m i) h, ok .on-time m i yes-listed a))
 
   pub under-open : (l : Leave) → Whole l s (p .iteration m) → (i n t : ℕ) → Acts p m i → T (underWay p (at m s l) i t n) → T (isOpen p t (at m s l))
   under-open l w i n t a u = works-open l i t a (under-works l w i n t a u)
@@ -133,7 +133,7 @@ module _ (p : RunPlan) (ok : Sound p) (D : ℕ) (common : Common p D) where
     pub load-fits : (proc : ℕ) → loadOf p D m proc (λ i. true) ≤ D
     load-fits proc = whole-part D (askedOf p m proc (λ i. true)) _ (load-proper proc (λ i. true)) (load-same proc (λ i. true)) (ok .load m proc yes-listed)
 
-  pub change-fits : (o l proc k : ℕ) → T (p .listed o) → T (p .listed l) → l ≢ o → p .offset o l ≤ k → k ≤ startup p o
+  pub change-fits : (o l proc k : ℕ) → T (p .listed o) → T (p .listed l) → l ≢ o → p .offset o l ≤ k → k ≤ p .startup o
       → loadOf p D o proc (λ i. ltb k (p .start o i)) + loadOf p D l proc (λ i. leb (p .offset o l + p .start l i) k) ≤ D
   change-fits o l proc k ho hl other from to =
       let old : ℕ → Bool = λ i. ltb k (p .start o i) in

@@ -11,7 +11,7 @@ use lib.Ieee.Fits.{and-l, and-r}
 use Rattle.numbers.specs.Every.{Every}
 use Rattle.numbers.specs.Fraction.{AtMost, Same}
 use Rattle.units.specs.Limits.{LOAD-LIMIT}
-use Rattle.run.specs.Plan.{RunPlan, startup}
+use Rattle.run.specs.Plan.{RunPlan}
 use Rattle.run.specs.Machine.{Machine, Leave, stays, leaves, Visit, visit}
 use Rattle.run.specs.Firing.{total, asks, asked}
 use Rattle.run.proofs.Sound.{Sound}
@@ -60,14 +60,14 @@ module _ (p : RunPlan) (ok : Sound p) where
     -- a visit and the one before it
     two : (b c : Machine) (f : ℕ) (l : Leave) → Good p (visit c l) → Good p (visit b (leaves f)) → Link p b f c → c .started ≤ t
         → parts p D proc t (visit c l) + parts p D proc t (visit b (leaves f)) ≤ D
-    two b c f l (hc, w) (hb, v) k h = go (split (f + startup p (b .mode)) t)
+    two b c f l (hc, w) (hb, v) k h = go (split (f + p .startup (b .mode)) t)
       where
-        go : (f + startup p (b .mode) ≤ t) ⊎ (t < f + startup p (b .mode)) → parts p D proc t (visit c l) + parts p D proc t (visit b (leaves f)) ≤ D
+        go : (f + p .startup (b .mode) ≤ t) ⊎ (t < f + p .startup (b .mode)) → parts p D proc t (visit c l) + parts p D proc t (visit b (leaves f)) ≤ D
         go (inl x) = omega (
           arith,
           parts-mode p ok D D-common (c .mode) (c .started) hc l w proc t,
           parts-none p ok D D-common (b .mode) (b .started) hb (leaves f) v proc t (λ u.
-              omega (arith, ltb→lt t (f + startup p (b .mode)) (and-r (leb (b .started) t) _ u))),
+              omega (arith, ltb→lt t (f + p .startup (b .mode)) (and-r (leb (b .started) t) _ u))),
         )
         go (inr x) = omega (
           arith,

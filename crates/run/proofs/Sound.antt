@@ -9,7 +9,7 @@ use Rattle.numbers.specs.Sum.{sum}
 use Rattle.numbers.specs.Fraction.{AtMost, plus, sumOf, nothing}
 use Rattle.numbers.specs.declared.fraction.Fraction.{Fraction}
 use Rattle.units.specs.Limits.{CLOCK-LIMIT, limitOf}
-use Rattle.run.specs.Plan.{RunPlan, Acts, startup, worksOn, wcetOverPeriod}
+use Rattle.run.specs.Plan.{RunPlan, Acts, worksOn, wcetOverPeriod}
 
 -- A mode that starts at tick 0 and runs for ever: k firings of actor i have begun by tick x, or ended.
 abbrev pub HaveBegun : RunPlan → ℕ → ℕ → ℕ → ℕ → Type 0
@@ -28,10 +28,10 @@ pub record Sound (p : RunPlan) : Type 0 where
   pub below : (m : ℕ) → T (p .listed m) → m < bound
   pub some-tick : (m : ℕ) → T (p .listed m) → 0 < p .iteration m
   -- a fresh machine's request has room below the last tick at which one is answered
-  pub room : (m : ℕ) → T (p .listed m) → startup p m + p .iteration m ≤ CLOCK-LIMIT .0
+  pub room : (m : ℕ) → T (p .listed m) → p .startup m + p .iteration m ≤ CLOCK-LIMIT .0
   pub some-period : (m i : ℕ) → T (p .listed m) → Acts p m i → 0 < p .period m i
   pub filled : (m i : ℕ) → T (p .listed m) → Acts p m i → p .firings m i * p .period m i ≡ p .iteration m
-  pub on-time : (m i : ℕ) → T (p .listed m) → Acts p m i → p .start m i ≤ startup p m
+  pub on-time : (m i : ℕ) → T (p .listed m) → Acts p m i → p .start m i ≤ p .startup m
   pub from-acts : (m c : ℕ) → T (p .listed m) → c < p .channels m → Acts p m (p .from m c)
   pub to-acts : (m c : ℕ) → T (p .listed m) → c < p .channels m → Acts p m (p .to m c)
   -- k iterations make as many tokens as they take
@@ -46,7 +46,7 @@ pub record Sound (p : RunPlan) : Type 0 where
       → sum (p .production m c) b ≡ sum (p .consumption m c) e + v → v ≤ p .size m c
   -- the load of each processor is at most 1, in each mode and at each tick of each change
   pub load : (m proc : ℕ) → T (p .listed m) → AtMost (askedOf p m proc (λ i. true)) (limitOf proc)
-  pub change : (o l proc k : ℕ) → T (p .listed o) → T (p .listed l) → l ≢ o → p .offset o l ≤ k → k ≤ startup p o
+  pub change : (o l proc k : ℕ) → T (p .listed o) → T (p .listed l) → l ≢ o → p .offset o l ≤ k → k ≤ p .startup o
       → AtMost (plus (askedOf p o proc (λ i. ltb k (p .start o i))) (askedOf p l proc (λ i. leb (p .offset o l + p .start l i) k))) (limitOf proc)
   -- a change waits for the actors of both modes
   pub waits : (o l i : ℕ) → T (p .listed o) → T (p .listed l) → l ≢ o → Acts p o i → Acts p l i → p .start o i ≤ p .offset o l + p .start l i

@@ -8,7 +8,7 @@ use native.Mathlib.Omega.{arith}
 use lib.Dec.{T, leb, ltb, leb→le, ltb→lt, le→leb, lt→ltb}
 use lib.Ieee.Fits.{and-l, and-r, and-i}
 use Rattle.numbers.specs.Sum.{sum, sum-more, sum-next}
-use Rattle.run.specs.Plan.{RunPlan, Acts, startup}
+use Rattle.run.specs.Plan.{RunPlan, Acts}
 use Rattle.run.specs.Machine.{Leave, stays, leaves, Visit}
 use Rattle.run.specs.Firing.{begins, fires, before, isOpen, EndTimes, InPeriod, begun, done, taken, made, claimed, givenBack}
 use Rattle.run.proofs.Sound.{Sound, HaveBegun, HaveEnded}
@@ -198,7 +198,7 @@ module _ (p : RunPlan) (ok : Sound p) (m s : ℕ) (yes-listed : T (p .listed m))
         begun-none l (p .from m c) (p .production m c) t h ∙ sym (done-none l timely (p .to m c) (p .consumption m c) t to-acts h),
       )
 
-      visit-gone : (f : ℕ) → InPeriod p e (at m s (leaves f)) → Whole (leaves f) s (p .iteration m) → f + startup p m ≤ t → Empty (leaves f)
+      visit-gone : (f : ℕ) → InPeriod p e (at m s (leaves f)) → Whole (leaves f) s (p .iteration m) → f + p .startup m ≤ t → Empty (leaves f)
       visit-gone f timely (k, w) h =
           let a = ok .on-time m (p .from m c) yes-listed from-acts in
           let b = ok .on-time m (p .to m c) yes-listed to-acts in
@@ -212,7 +212,7 @@ module _ (p : RunPlan) (ok : Sound p) (m s : ℕ) (yes-listed : T (p .listed m))
       pub visit-closed : (l : Leave) → InPeriod p e (at m s l) → Whole l s (p .iteration m) → (T (isOpen p t (at m s l)) → ⊥) → Empty l
       visit-closed l timely w h = ⊎-elim (λ (b : s ≤ t). go l timely w (λ u. h (and-i (leb s t) _ (le→leb s t b) u))) (λ (b : t < s). visit-unborn l timely b) (split s t)
         where
-          go : (l : Leave) → InPeriod p e (at m s l) → Whole l s (p .iteration m) → (T (before l (startup p m) t) → ⊥) → Empty l
+          go : (l : Leave) → InPeriod p e (at m s l) → Whole l s (p .iteration m) → (T (before l (p .startup m) t) → ⊥) → Empty l
           go stays timely w h = absurd (h tt)
           go (leaves f) timely w h =
-              ⊎-elim (λ (b : f + startup p m ≤ t). visit-gone f timely w b) (λ (b : t < f + startup p m). absurd (h (lt→ltb t (f + startup p m) b))) (split (f + startup p m) t)
+              ⊎-elim (λ (b : f + p .startup m ≤ t). visit-gone f timely w b) (λ (b : t < f + p .startup m). absurd (h (lt→ltb t (f + p .startup m) b))) (split (f + p .startup m) t)

@@ -6,7 +6,7 @@ use lib.Dec.{T, leb, ltb, eqb}
 use Rattle.numbers.specs.Sum.{sum}
 use Rattle.numbers.specs.Fraction.{plus, sumOf, nothing}
 use Rattle.numbers.specs.declared.fraction.Fraction.{Fraction}
-use Rattle.run.specs.Plan.{RunPlan, Acts, startup, worksOn, wcetOverPeriod}
+use Rattle.run.specs.Plan.{RunPlan, Acts, worksOn, wcetOverPeriod}
 use Rattle.run.specs.Machine.{Leave, stays, leaves, Visit}
 
 -- firing n of actor i of a visit begins at this tick ..
@@ -31,7 +31,7 @@ before stays after t = true
 before (leaves f) after t = ltb t (f + after)
 
 abbrev pub isOpen : RunPlan → ℕ → Visit → Bool
-isOpen p t v = leb (v .start) t && before (v .leave) (startup p (v .mode)) t
+isOpen p t v = leb (v .start) t && before (v .leave) (p .startup (v .mode)) t
 
 -- when each firing of each actor of each visit ends
 abbrev pub EndTimes : Type 0

@@ -6,7 +6,7 @@ use lib.Dec.{ltb, eqb}
 use Rattle.numbers.specs.Quotient.{roundedOf}
 use Rattle.units.specs.Limits.{CLOCK-LIMIT}
 use Rattle.terms.specs.Refusal.{NO-MODE, SAME-MODE, PAST-CLOCK, UNENDED, NO-MACHINE}
-use Rattle.run.specs.Plan.{RunPlan, sinkStart, startup}
+use Rattle.run.specs.Plan.{RunPlan, sinkStart}
 
 -- a mode, its starting tick, and the tick at which its change ends
 pub record Machine : Type 0 where
@@ -37,7 +37,7 @@ abbrev pub changed : RunPlan → Machine → Request → Machine
 changed p m r = record {
   mode = r .mode;
   started = leaving p m r + p .offset (m .mode) (r .mode);
-  ended = max (leaving p m r + startup p (m .mode)) (leaving p m r + p .offset (m .mode) (r .mode) + startup p (r .mode));
+  ended = max (leaving p m r + p .startup (m .mode)) (leaving p m r + p .offset (m .mode) (r .mode) + p .startup (r .mode));
 }
 
 -- the delay of an accepted request: F + d + the sink's start in the new mode - t
@@ -71,7 +71,7 @@ visits s = visit (s .now) stays ∷ s .past
 
 -- a machine begins at tick 0, and its first change counts as ended at the end of the start-up
 abbrev pub begin : RunPlan → ℕ → Run
-begin p m = record { now = record { mode = m; started = 0; ended = startup p m }; past = [] }
+begin p m = record { now = record { mode = m; started = 0; ended = p .startup m }; past = [] }
 
 -- a request is answered: a refused one changes nothing
 unfoldable pub answer : RunPlan → Run → Request → Run

@@ -17,8 +17,9 @@ pub record RunPlan : Type 0 where
   pub firings : ℕ → ℕ → ℕ
   pub period : ℕ → ℕ → ℕ
   pub start : ℕ → ℕ → ℕ
-  -- of a mode: the iteration H, the actor that is its sink, and its channels, which are those below this
+  -- of a mode: the iteration H, the end of its start-up, the actor that is its sink, and its channels, which are those below this
   pub iteration : ℕ → ℕ
+  pub startup : ℕ → ℕ
   pub sink : ℕ → ℕ
   pub channels : ℕ → ℕ
   -- of a channel of a mode: its two actors, the tokens that firing n of the one makes and firing n of the other takes, the size of its buffer
@@ -30,12 +31,9 @@ pub record RunPlan : Type 0 where
   -- the offset d of a change from one mode to another
   pub offset : ℕ → ℕ → ℕ
 
--- the sink's start, and the end of a mode's start-up, which is that tick
+-- the tick set for the first firing of a mode's sink
 abbrev pub sinkStart : RunPlan → ℕ → ℕ
 sinkStart p m = p .start m (p .sink m)
-
-abbrev pub startup : RunPlan → ℕ → ℕ
-startup p m = sinkStart p m
 
 -- actor i is active in mode m
 abbrev pub Acts : RunPlan → ℕ → ℕ → Type 0

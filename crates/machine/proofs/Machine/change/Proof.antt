@@ -36,19 +36,23 @@ change-spec =
     rw (left-is c) (omega (arith, left-soon _ _ _ n, n .clock, n .iteration, n .offset)))
     (λ c κs.
     let n = near (c .before .before .before .before .before .before .before .before .before) in
-    rw (c .plus3 .ensures, left-is (c .before)) (omega (arith, left-soon _ _ _ n, n .clock, n .iteration, n .offset, n .new)))
+    rw (c .plus3 .ensures, left-is (c .before)) (omega (arith, left-soon _ _ _ n, n .clock, n .iteration, n .offset, n .sink)))
+    (λ c κs.
+    let n = near (c .before .before .before .before .before .before .before .before .before .before) in
+    rw (c .before .plus3 .ensures, left-is (c .before .before)) (omega (arith, left-soon _ _ _ n, n .clock, n .iteration, n .offset, n .new)))
     (λ c κs. search needs)
     (λ c κs.
-    let n = near (c .before .before .before .before .before .before .before .before .before .before .before) in
-    rw (left-is (c .before .before .before)) (omega (arith, left-soon _ _ _ n, n .clock, n .iteration, n .old)))
+    let n = near (c .before .before .before .before .before .before .before .before .before .before .before .before) in
+    rw (left-is (c .before .before .before .before)) (omega (arith, left-soon _ _ _ n, n .clock, n .iteration, n .old)))
     (λ c κs. search needs)
     (λ c.
-    let s = c .before .before .before .before in
+    let s = c .before .before .before .before .before in
     rw (
       c .greater .ensures,
-      c .before .plus5 .ensures,
+      c .before .plus6 .ensures,
       c .before .before .minus3 .ensures,
-      c .before .before .before .plus4 .ensures,
+      c .before .before .before .plus5 .ensures,
+      c .before .before .before .before .plus4 .ensures,
       s .plus3 .ensures,
       left-is (s .before),
     )))

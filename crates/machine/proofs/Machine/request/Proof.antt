@@ -17,7 +17,7 @@ use Rattle.planner.proofs.Leaving.{recalls-decides, recalls-leaves}
 use Rattle.machine.specs.declared.Course.{Course}
 use Rattle.machine.specs.Answers.{seen, asking, Answers}
 use Rattle.machine.specs.Steps.{changedOf}
-use Rattle.machine.proofs.Steps.{is-true, in-range, refused-16, refused-disordered, refused-11, refused-12, refused-13, refused-14, refuses, course-near, accepts}
+use Rattle.machine.proofs.Steps.{is-true, in-range, refused-16, refused-disordered, refused-11, refused-12, refused-13, refused-14, refuses, course-near, sink-there, accepts}
 use Rattle.machine.proofs.Machine.request.Statement.{statement}
 use Rattle.machine.proofs.Machine.request.Tie as tie
 
@@ -150,7 +150,7 @@ request-spec =
     let a = accepted c in
     let (o, p) = in-range l _ (a .old) in
     let (n, q) = in-range l _ (a .new) in
-    (o, p, n, q))
+    (o, p, n, q, sink-there l _ _ _ a))
     (λ c κs. rw (c .course .ensures) (course-near (leaves (c .before .before .before .before .before .before .before .before .before .before .before .before .before .before .before .before .before)) _ _ _ (accepted (c .before))))
     (λ c.
     let x = c .before in

@@ -4,7 +4,10 @@ use Rattle.machine.proofs.modes.course.Statement.{statement}
 use Rattle.machine.proofs.modes.course.Tie as tie
 
 returns : tie.Need-returns
-returns c = rw (c .before .before .before .before .before .before .before .before .place-of .ensures, c .before .before .before .before .before .before .before .place-of2 .ensures)
+returns c =
+    let s = c .before in
+    let d = s .before .before .before .before .before .before .before in
+    rw (s .sink-start .ensures, d .before .place-of .ensures, d .place-of2 .ensures)
 
 pub course-spec : {M : Type 1} → statement M
 course-spec =
@@ -20,4 +23,5 @@ course-spec =
     (λ c. search needs)
     (λ c. search needs)
     (λ c. search needs)
+    (λ c κs. rw (c .before .before .before .before .before .before .place-of2 .ensures) (c .before .before .before .before .before .before .before .before .pre .4))
     returns)
