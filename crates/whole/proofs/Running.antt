@@ -112,8 +112,7 @@ module _ (m : Mode) (proper : ProperMode m) where
         some-tick = iteration-pos m proper x some (n .iteration);
         iteration = n .within;
         load = borne x (partOf j (w .timetable)) period bears;
-        since = refl;
-        until = refl;
+        works = refl;
       })
 
 module _ (t : Table) (proper : ProperTable t) where
