@@ -7,43 +7,57 @@ use Prim.Native.Nat.{ℕ, zero, suc, _+_, _*_, _^_, _≤_, _<_, zero-le}
 use native.Mathlib.Nat.{le-antisymm, le-refl, mul-le-mul}
 use native.Mathlib.Omega.{arith}
 use native.Mathlib.Decide.{decLe}
+use borrow.Author.Tests.{eq-eqb, ne-eqb}
 use lib.Dec.{T, eqb, leb}
 use Rattle.numbers.specs.Bits.{bit, Has, hasb, has-or-not, has-decides}
-use Rattle.numbers.specs.Decides.{Decides, decides-unique, decides-and, decides-eqb, decides-leb, decides-true, decides-false}
+use Rattle.numbers.specs.Decides.{Decides, leb-is, decides-unique, decides-and, decides-eqb, decides-leb, decides-true, decides-false}
 use Rattle.numbers.specs.Fraction.{Proper, Same, sum-proper, sum-common, nothing}
 use Rattle.numbers.specs.declared.fraction.Fraction.{Fraction}
 use Rattle.numbers.specs.Lowest.{FirstPasses, NonePasses, sought}
-use Rattle.numbers.specs.Sum.{sum, sum-le, sum-most}
+use Rattle.numbers.specs.Sum.{sum, sum-next, sum-le, sum-most}
 use Rattle.units.specs.Bounds.{MOST-FIRINGS}
 use Rattle.units.specs.Limits.{ACTORS, MOST-WCET}
-use Rattle.units.specs.Ticks.{tick}
+use Rattle.units.specs.Ticks.{tick, plusTicks}
 use Rattle.units.specs.declared.Tick.{Tick}
 use Rattle.units.specs.declared.Firing.{Firing}
 use Rattle.period.specs.Period.{workOf, shareOf}
 use Rattle.tables.specs.declared.Actor.{Actor}
 use Rattle.graph.specs.Load.{isOn, askedBy, askedOf}
 use Rattle.change.specs.declared.Running.{Running}
-use Rattle.change.specs.Work.{Fitting, actorIn, firingsAt, tickAt, between, countedOf, workBetween}
+use Rattle.change.specs.Work.{Fitting, actorIn, firingsAt, countedOf}
 use Rattle.change.specs.Change.{periodIn, startOf}
 use Rattle.change.specs.Running.{timesIn, Ready}
 
 -- works of actors within their ranges are summed within 64 bits
-pub work-fits : (actors : List Actor) (firings : List Firing) (starts : List Tick) → Fitting actors firings starts → (p : ℕ) (a b : Tick) (k : ℕ) → k < ACTORS
-    → {v w : Tick} → v ≡ tick (sum (λ i. countedOf (actorIn actors i) (firingsAt firings i) (tickAt starts i) p a b .0) k)
-    → w ≡ countedOf (actorIn actors k) (firingsAt firings k) (tickAt starts k) p a b → v .0 + w .0 < 2 ^ 64
-work-fits actors firings starts fits p a b k l e f =
-    rw (e, f) (omega (arith, sum-most (λ i. countedOf (actorIn actors i) (firingsAt firings i) (tickAt starts i) p a b .0) (MOST-FIRINGS .0 * MOST-WCET .0) k (λ i h. most i (omega arith)), most k l))
+pub work-fits : (actors : List Actor) (firings : List Firing) (starts : List Tick) → Fitting actors firings starts → (p : ℕ) (counts : ℕ → Bool) (k : ℕ) → k < ACTORS
+    → {v w : Tick} → v ≡ tick (sum (λ i. countedOf actors firings p counts i .0) k) → w ≡ countedOf actors firings p counts k → v .0 + w .0 < 2 ^ 64
+work-fits actors firings starts fits p counts k l e f =
+    rw (e, f) (omega (arith, sum-most (λ i. countedOf actors firings p counts i .0) (MOST-FIRINGS .0 * MOST-WCET .0) k (λ i h. most i (omega arith)), most k l))
   where
     go : (x : Bool) (w : Tick) → w .0 ≤ MOST-FIRINGS .0 * MOST-WCET .0 → cond x w (tick 0) .0 ≤ MOST-FIRINGS .0 * MOST-WCET .0
     go true w h = h
     go false w h = zero-le
 
-    most : (i : ℕ) → i < ACTORS → countedOf (actorIn actors i) (firingsAt firings i) (tickAt starts i) p a b .0 ≤ MOST-FIRINGS .0 * MOST-WCET .0
-    most i h = go (between (actorIn actors i) (tickAt starts i) p a b) (workOf (actorIn actors i .wcet) (firingsAt firings i)) (omega (arith, mul-le-mul (fits .few i h) (fits .wcet i h)))
+    most : (i : ℕ) → i < ACTORS → countedOf actors firings p counts i .0 ≤ MOST-FIRINGS .0 * MOST-WCET .0
+    most i h = go (eqb (actorIn actors i .processor) p && counts i) (workOf (actorIn actors i .wcet) (firingsAt firings i)) (omega (arith, mul-le-mul (fits .few i h) (fits .wcet i h)))
+
+-- one actor more: on processor p, or on another
+module _ (actors : List Actor) (firings : List Firing) (p k : ℕ) where
+  pub counted-one : (x y : ℕ) (b : Bool) {v w : Tick} → actorIn actors k .processor ≡ p → Decides (x ≤ y) b → v ≡ workOf (actorIn actors k .wcet) (firingsAt firings k)
+      → w ≡ cond b v (tick 0) → w ≡ cond (eqb (actorIn actors k .processor) p && leb x y) (workOf (actorIn actors k .wcet) (firingsAt firings k)) (tick 0)
+  counted-one x y b h d f e = e ∙ rw (eq-eqb _ _ h, leb-is x y b d, f)
+
+  pub work-more : (counts : ℕ → Bool) {u v w : Tick} → v ≡ tick (sum (λ i. countedOf actors firings p counts i .0) k) → w ≡ countedOf actors firings p counts k
+      → u ≡ plusTicks v w → u ≡ tick (sum (λ i. countedOf actors firings p counts i .0) (k + 1))
+  work-more counts e f g = g ∙ rw (e, f, sum-next (λ i. countedOf actors firings p counts i .0) k)
+
+  pub work-no-more : (counts : ℕ → Bool) → (actorIn actors k .processor ≡ p → ⊥) → {v : Tick} → v ≡ tick (sum (λ i. countedOf actors firings p counts i .0) k)
+      → v ≡ tick (sum (λ i. countedOf actors firings p counts i .0) (k + 1))
+  work-no-more counts n e = e ∙ rw (sum-next (λ i. countedOf actors firings p counts i .0) k, ne-eqb _ _ n) (ap tick (omega arith))
 
 -- the work of the actors on processor p that start from a to b
 abbrev pub workIn : Running → ℕ → ℕ → ℕ → ℕ
-workIn r p a b = workBetween (r .actors) (r .firings) (r .starts) p (tick a) (tick b) .0
+workIn r p a b = sum (λ i. countedOf (r .actors) (r .firings) p (λ i. leb a (startOf (timesIn r) i) && leb (startOf (timesIn r) i) b) i .0) ACTORS
 
 -- actor i is on processor p and starts from a to b
 abbrev pub Between : Running → ℕ → ℕ → ℕ → ℕ → Type 0
@@ -51,7 +65,7 @@ Between r p a b i = (actorIn (r .actors) i .processor ≡ p) × ((a ≤ startOf 
 
 module _ (r : Running) (p : ℕ) where
   abbrev test : ℕ → ℕ → ℕ → Bool
-  test a b i = between (actorIn (r .actors) i) (tickAt (r .starts) i) p (tick a) (tick b)
+  test a b i = eqb (actorIn (r .actors) i .processor) p && (leb a (startOf (timesIn r) i) && leb (startOf (timesIn r) i) b)
 
   abbrev work : ℕ → Tick
   work i = workOf (actorIn (r .actors) i .wcet) (firingsAt (r .firings) i)
@@ -59,7 +73,7 @@ module _ (r : Running) (p : ℕ) where
   abbrev counted : ℕ → ℕ → ℕ → ℕ
   counted a b i = cond (test a b i) (work i) (tick 0) .0
 
-  pub between-is : (a b i : ℕ) → Decides (Between r p a b i) (between (actorIn (r .actors) i) (tickAt (r .starts) i) p (tick a) (tick b))
+  pub between-is : (a b i : ℕ) → Decides (Between r p a b i) (test a b i)
   between-is a b i =
       decides-and (eqb (actorIn (r .actors) i .processor) p) (leb a (startOf (timesIn r) i) && leb (startOf (timesIn r) i) b) (decides-eqb _ _ ((λ e. e), (λ e. e)))
       (decides-and (leb a (startOf (timesIn r) i)) (leb (startOf (timesIn r) i) b) (decides-leb _ _) (decides-leb _ _))

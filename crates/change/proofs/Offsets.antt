@@ -1,19 +1,21 @@
 -- The overlap and the offset that are found are those of the rules: for any limit, the load is borne from an offset on exactly when each new actor waits for each
 -- old one with which its processor would be asked for more. Assumes nothing.
-use mathlib.Core.Path.{_≡_, refl, sym, ap₂, subst, _∙_}
+use mathlib.Core.Path.{_≡_, refl, sym, ap, ap₂, subst, _∙_}
 use mathlib.Core.Bool.{Bool, true, false, cond, _&&_}
 use mathlib.Core.Logic.{_⊎_, inl, inr, ⊎-elim, _↔_}
 use Prim.Native.Nat.{ℕ, suc, _+_, _-_, _*_, _/_, _%_, _≤_, _<_, max, zero-le}
-use native.Mathlib.Nat.{mul-pos, mul-le-mul-left, mul-le-mul-right, lt-of-not-le, not-le-of-lt, le-trans, lt-irrefl}
+use native.Mathlib.Nat.{mul-pos, mul-le-mul-left, mul-le-mul-right, lt-of-not-le, not-le-of-lt, le-refl, le-trans, lt-irrefl}
 use native.Mathlib.Omega.{arith}
 use native.Mathlib.Decide.{decLe}
 use borrow.Author.Tests.{eq-eqb, eqb-true, eqb-false, leb-true, leb-false}
 use lib.Bits.{bitAnd}
-use lib.Dec.{eqb, leb, ltb, ltb→lt, lt→ltb, leb→le, le→leb}
+use lib.Dec.{T, eqb, leb, ltb, ltb→lt, lt→ltb, leb→le, le→leb}
+use lib.ListN.{getD}
 use Rattle.numbers.specs.Bits.{bit, Has, hasb, has-and, has-or-not}
 use Rattle.numbers.specs.Decides.{decides-and}
 use Rattle.numbers.specs.Extreme.{mostOf, most-next, most-above, most-within, most-at}
 use Rattle.numbers.specs.Fraction.{AtMost, plus, same-plus, same-at-most, atMostb}
+use Rattle.numbers.specs.Sum.{sum-same}
 use Rattle.numbers.specs.Tab.{getD-tab}
 use Rattle.numbers.specs.declared.fraction.Fraction.{Fraction}
 use Rattle.units.specs.Limits.{ACTORS, PROCESSORS, limitOf}
@@ -21,12 +23,13 @@ use Rattle.units.specs.Ticks.{tick, minusTicks, greaterTick}
 use Rattle.units.specs.declared.Tick.{Tick}
 use Rattle.period.specs.Period.{shareOf}
 use Rattle.change.specs.declared.Running.{Running}
+use Rattle.change.specs.declared.wait.Side.{Side}
 use Rattle.tables.specs.Shape.{Active}
 use Rattle.graph.specs.Load.{isOn, askedOf}
 use Rattle.change.specs.Change.{periodIn, startOf, askedOn, loadAt, Bearable, Bears, Overlap, Offset}
-use Rattle.change.specs.Work.{actorIn, tickAt}
+use Rattle.change.specs.Work.{actorIn, tickAt, noWorks, worksAt}
 use Rattle.change.specs.Running.{timesIn, Ready}
-use Rattle.change.specs.Waits.{Part, leadOf, overlapOf, oldSide, newSide, waitOf, pairWait, offsetFrom}
+use Rattle.change.specs.Waits.{Part, leadOf, overlapOf, oldSide, newSide, waitOf, pairWait, longestWait, offsetFrom}
 use Rattle.change.proofs.Loads.{workIn, work-within, FromFirst, work-first, ToLast, work-last, work-nowhere, on-is, Counting, asked-proper, asked-work}
 
 -- what two works ask together of a processor, each as a part of its mode's iteration
@@ -80,11 +83,21 @@ overlap-is old new =
 
 -- what a planned mode has of its actors
 module _ (r : Running) (ready : Ready r) (i : ℕ) (l : i < ACTORS) where
-  since-is : tickAt (r .since) i ≡ tick (workIn r (actorIn (r .actors) i .processor) (startOf (timesIn r) i) (r .startup .0))
-  since-is = rw (ready .since) (getD-tab ACTORS _ i (tick 0) l)
+  works-is : getD (r .works) i noWorks ≡ record { since = tick (workIn r (actorIn (r .actors) i .processor) (startOf (timesIn r) i) (r .startup .0)); until = tick (workIn r (actorIn (r .actors) i .processor) 0 (startOf (timesIn r) i)) }
+  works-is =
+      rw (ready .works)
+      (getD-tab ACTORS (worksAt (r .actors) (r .firings) (r .starts)) i noWorks l ∙ ap₂ (λ (s u : ℕ). record { since = tick s; until = tick u })
+      (sum-same _ _ ACTORS (λ k h. since _ (on k) _ _ (le→leb _ _ (ready .start k h)))) (sum-same _ _ ACTORS (λ k h. until _ (on k) _ (leb 0 (startOf (timesIn r) k)) (le→leb 0 (startOf (timesIn r) k) zero-le))))
+    where
+      on : ℕ → Bool
+      on k = eqb (actorIn (r .actors) k .processor) (actorIn (r .actors) i .processor)
 
-  until-is : tickAt (r .until) i ≡ tick (workIn r (actorIn (r .actors) i .processor) 0 (startOf (timesIn r) i))
-  until-is = rw (ready .until) (getD-tab ACTORS _ i (tick 0) l)
+      since : (w : Tick) (x y z : Bool) → T z → cond (x && y) w (tick 0) .0 ≡ cond (x && (y && z)) w (tick 0) .0
+      since w x true true t = refl
+      since w x false z t = refl
+
+      until : (w : Tick) (x y z : Bool) → T z → cond (x && y) w (tick 0) .0 ≡ cond (x && (z && y)) w (tick 0) .0
+      until w x y true t = refl
 
 module _ (limit : ℕ → Fraction) where
   -- a mode's work on a processor is within the limit
@@ -198,7 +211,7 @@ module _ (limit : ℕ → Fraction) where
     -- how long a new actor waits for an old one
     wait-is : (d i j : ℕ) → i < ACTORS → j < ACTORS → (waitOf limit (oldSide old i) (newSide new j) .0 ≤ d) ↔ Waits limit old new d i j
     wait-is d i j li lj =
-        rw (since-is old ready-old i li, until-is new ready-new j lj) (go (eqb (actorIn (old .actors) i .processor) (actorIn (new .actors) j .processor)) refl (atMostb (together old new i j) (limit (actorIn (old .actors) i .processor))) refl)
+        rw (works-is old ready-old i li, works-is new ready-new j lj) (go (eqb (actorIn (old .actors) i .processor) (actorIn (new .actors) j .processor)) refl (atMostb (together old new i j) (limit (actorIn (old .actors) i .processor))) refl)
       where
         go : (x : Bool) → eqb (actorIn (old .actors) i .processor) (actorIn (new .actors) j .processor) ≡ x → (y : Bool) → atMostb (together old new i j) (limit (actorIn (old .actors) i .processor)) ≡ y
             → (cond x (cond y (tick 0) (minusTicks (tickAt (old .starts) i) (tickAt (new .starts) j))) (tick 0) .0 ≤ d) ↔ Waits limit old new d i j
@@ -210,7 +223,7 @@ module _ (limit : ℕ → Fraction) where
         )
 
     -- the load is borne from an offset on exactly when it is at least what is found
-    pub bears-from : Bearable limit (timesIn old) → Bearable limit (timesIn new) → (d : ℕ) → Bears limit (timesIn old) (timesIn new) d ↔ (offsetFrom limit old new .0 ≤ d)
+    pub bears-from : Bearable limit (timesIn old) → Bearable limit (timesIn new) → (d : ℕ) → Bears limit (timesIn old) (timesIn new) d ↔ (longestWait limit old new .0 ≤ d)
     bears-from own-old own-new d = (
       (λ b. most-within (pairWait limit old new) d (ACTORS * ACTORS) (λ n l. waits b (n / ACTORS) (n % ACTORS) (omega arith) (omega arith))),
       (λ h. waits-bears d (λ i j li lj. wait-is d i j li lj .0 (le-trans (within i j li lj) h)) own-old own-new),
@@ -219,12 +232,12 @@ module _ (limit : ℕ → Fraction) where
         waits : Bears limit (timesIn old) (timesIn new) d → (i j : ℕ) → i < ACTORS → j < ACTORS → waitOf limit (oldSide old i) (newSide new j) .0 ≤ d
         waits b i j li lj = wait-is d i j li lj .1 (bears-waits d b i j li lj)
 
-        within : (i j : ℕ) → i < ACTORS → j < ACTORS → waitOf limit (oldSide old i) (newSide new j) .0 ≤ offsetFrom limit old new .0
+        within : (i j : ℕ) → i < ACTORS → j < ACTORS → waitOf limit (oldSide old i) (newSide new j) .0 ≤ longestWait limit old new .0
         within i j li lj =
             let e : (ACTORS * i + j) / ACTORS ≡ i = omega arith in
             let f : (ACTORS * i + j) % ACTORS ≡ j = omega arith in
             let w : pairWait limit old new (ACTORS * i + j) ≡ waitOf limit (oldSide old i) (newSide new j) .0 = ap₂ (λ (x y : ℕ). waitOf limit (oldSide old x) (newSide new y) .0) e f in
-            subst (λ (x : ℕ). x ≤ offsetFrom limit old new .0) w (most-above (pairWait limit old new) (ACTORS * ACTORS) (ACTORS * i + j) (omega arith))
+            subst (λ (x : ℕ). x ≤ longestWait limit old new .0) w (most-above (pairWait limit old new) (ACTORS * ACTORS) (ACTORS * i + j) (omega arith))
 
     -- so it is from the end of the old mode's start-up
     pub bears-at-last : Bearable limit (timesIn old) → Bearable limit (timesIn new) → Bears limit (timesIn old) (timesIn new) (old .startup .0)
@@ -232,7 +245,7 @@ module _ (limit : ℕ → Fraction) where
         waits-bears (old .startup .0) (λ i j li lj e n. omega (arith, ready-old .start i li)) own-old own-new
 
     -- the later of the overlap and what is found is the offset
-    pub offset-is : Bearable limit (timesIn old) → Bearable limit (timesIn new) → Offset limit (timesIn old) (timesIn new) (overlapOf old new) (greaterTick (overlapOf old new) (offsetFrom limit old new))
+    pub offset-is : Bearable limit (timesIn old) → Bearable limit (timesIn new) → Offset limit (timesIn old) (timesIn new) (overlapOf old new) (offsetFrom limit old new (overlapOf old new))
     offset-is own-old own-new =
         record {
           holds = (
@@ -264,14 +277,37 @@ module _ (r : Running) (ready : Ready r) (i : ℕ) (l : i < ACTORS) where
           let w : workIn r (actorIn (r .actors) i .processor) a b ≡ 0 = rw q (work-nowhere r ready a b) in
           omega arith
 
-  pub since-part : Part (shareOf (tickAt (r .since) i) (r .iteration))
-  since-part = rw (since-is r ready i l) (work-part _ _)
+  pub since-part : Part (shareOf (getD (r .works) i noWorks .since) (r .iteration))
+  since-part = rw (works-is r ready i l) (work-part _ _)
 
-  pub until-part : Part (shareOf (tickAt (r .until) i) (r .iteration))
-  until-part = rw (until-is r ready i l) (work-part _ _)
+  pub until-part : Part (shareOf (getD (r .works) i noWorks .until) (r .iteration))
+  until-part = rw (works-is r ready i l) (work-part _ _)
 
 -- what is found, under the limit in force
-pub found : (old new : Running) → Ready old → Ready new → {x o d : Tick} → x ≡ overlapOf old new → o ≡ offsetFrom limitOf old new → d ≡ greaterTick x o
+pub found : (old new : Running) → Ready old → Ready new → {x d : Tick} → x ≡ overlapOf old new → d ≡ offsetFrom limitOf old new x
     → Overlap (timesIn old) (timesIn new) x × Offset limitOf (timesIn old) (timesIn new) x d
-found old new ready-old ready-new e f g =
-    rw (g, e, f) (overlap-is old new, offset-is limitOf old new ready-old ready-new (ready-old .load) (ready-new .load))
+found old new ready-old ready-new e f =
+    rw (f, e) (overlap-is old new, offset-is limitOf old new ready-old ready-new (ready-old .load) (ready-new .load))
+
+-- one pair more: perhaps a longer wait, or none that is longer
+module _ (limit : ℕ → Fraction) where
+  wait-most : (a b : Side) → waitOf limit a b .0 ≤ minusTicks (a .start) (b .start) .0
+  wait-most a b = go (eqb (a .processor) (b .processor)) (atMostb (plus (a .asked) (b .asked)) (limit (a .processor)))
+    where
+      go : (x y : Bool) → cond x (cond y (tick 0) (minusTicks (a .start) (b .start))) (tick 0) .0 ≤ minusTicks (a .start) (b .start) .0
+      go true true = zero-le
+      go true false = le-refl _
+      go false y = zero-le
+
+  module _ (old new : Running) (least : Tick) (n : ℕ) where
+    abbrev so-far : ℕ → Tick
+    so-far n = greaterTick least (tick (mostOf (pairWait limit old new) n))
+
+    pub wait-longer : {most wait next : Tick} → most ≡ so-far n → wait ≡ tick (pairWait limit old new n) → next ≡ greaterTick most wait → next ≡ so-far (n + 1)
+    wait-longer e f g = g ∙ rw (e, f, most-next (pairWait limit old new) n) (ap tick (omega arith))
+
+    pub wait-no-longer : {most wait : Tick} → most ≡ so-far n → wait ≡ minusTicks (tickAt (old .starts) (n / ACTORS)) (tickAt (new .starts) (n % ACTORS)) → wait .0 ≤ most .0
+        → most ≡ so-far (n + 1)
+    wait-no-longer e f h =
+        let short = rw (e, f) at h in
+        e ∙ rw (most-next (pairWait limit old new) n) (ap tick (omega (arith, wait-most (oldSide old (n / ACTORS)) (newSide new (n % ACTORS)))))

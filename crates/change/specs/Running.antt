@@ -3,13 +3,14 @@ use mathlib.Core.Path.{_≡_}
 use mathlib.Core.List.{[]}
 use Prim.Native.Nat.{ℕ, _*_, _≤_, _<_}
 use Rattle.numbers.specs.Bits.{Has}
+use Rattle.numbers.specs.Tab.{tab}
 use Rattle.units.specs.Bounds.{MOST-START}
 use Rattle.units.specs.Limits.{ACTORS, ITERATION-LIMIT, limitOf}
 use Rattle.tables.specs.Shape.{noActor, actorAt, Active}
 use Rattle.tables.specs.Proper.{ProperActor}
 use Rattle.change.specs.declared.Running.{Running}
 use Rattle.change.specs.Change.{ModeTimes, periodIn, startOf, Bearable}
-use Rattle.change.specs.Work.{firingsAt, sincesOf, untilsOf}
+use Rattle.change.specs.Work.{firingsAt, worksAt}
 
 -- the mode and what is planned of it; no rule of a change asks for its channels
 abbrev pub timesIn : Running → ModeTimes
@@ -36,5 +37,4 @@ pub record Ready (r : Running) : Type 0 where
   pub some-tick : 0 < r .iteration .0
   pub iteration : r .iteration .0 ≤ ITERATION-LIMIT .0
   pub load : Bearable limitOf (timesIn r)
-  pub since : r .since ≡ sincesOf (r .actors) (r .firings) (r .starts) (r .startup)
-  pub until : r .until ≡ untilsOf (r .actors) (r .firings) (r .starts)
+  pub works : r .works ≡ tab ACTORS (worksAt (r .actors) (r .firings) (r .starts))

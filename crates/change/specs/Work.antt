@@ -1,4 +1,4 @@
--- The work of a mode's actors in an iteration, summed over those of a processor that start between two ticks.
+-- The work of a mode's actors in an iteration, summed over those of a processor that start no earlier or no later than one of them.
 use mathlib.Core.Path.{_≡_}
 use mathlib.Core.Bool.{Bool, cond, _&&_}
 use mathlib.Core.List.{List}
@@ -17,6 +17,7 @@ use Rattle.period.specs.Period.{workOf}
 use Rattle.tables.specs.declared.Actor.{Actor}
 use Rattle.tables.specs.Shape.{noActor}
 use Rattle.change.specs.declared.Running.{Running}
+use Rattle.change.specs.declared.Works.{Works}
 
 -- an actor, its firings and its start
 abbrev pub actorIn : List Actor → ℕ → Actor
@@ -28,6 +29,10 @@ firingsAt firings i = getD firings i (firing 0)
 abbrev pub tickAt : List Tick → ℕ → Tick
 tickAt ticks i = getD ticks i (tick 0)
 
+-- no work
+abbrev pub noWorks : Works
+noWorks = record { since = tick 0; until = tick 0 }
+
 -- actors and firings within their ranges
 pub record Fitting (actors : List Actor) (firings : List Firing) (starts : List Tick) : Type 0 where
   pub actors-long : length actors ≡ ACTORS
@@ -36,26 +41,22 @@ pub record Fitting (actors : List Actor) (firings : List Firing) (starts : List 
   pub wcet : (i : ℕ) → i < ACTORS → actorIn actors i .wcet .0 ≤ MOST-WCET .0
   pub few : (i : ℕ) → i < ACTORS → firingsAt firings i .0 ≤ MOST-FIRINGS .0
 
--- whether an actor is on processor p and starts at one of the ticks from a to b
-abbrev pub between : Actor → Tick → ℕ → Tick → Tick → Bool
-between actor start p a b = eqb (actor .processor) p && (leb (a .0) (start .0) && leb (start .0) (b .0))
+-- the work of actor k where it is on processor p and counts, and none otherwise
+abbrev pub countedOf : List Actor → List Firing → ℕ → (ℕ → Bool) → ℕ → Tick
+countedOf actors firings p counts k =
+    cond (eqb (actorIn actors k .processor) p && counts k) (workOf (actorIn actors k .wcet) (firingsAt firings k)) (tick 0)
 
--- its work, where it is and does
-abbrev pub countedOf : Actor → Firing → Tick → ℕ → Tick → Tick → Tick
-countedOf actor firings start p a b = cond (between actor start p a b) (workOf (actor .wcet) firings) (tick 0)
+-- the work on processor p of the actors that start no earlier than a tick, and of those that start no later
+abbrev pub worksOf : List Actor → List Firing → List Tick → ℕ → Tick → Works
+worksOf actors firings starts p start =
+    record {
+      since = tick (sum (λ k. countedOf actors firings p (λ k. leb (start .0) (tickAt starts k .0)) k .0) ACTORS);
+      until = tick (sum (λ k. countedOf actors firings p (λ k. leb (tickAt starts k .0) (start .0)) k .0) ACTORS);
+    }
 
--- the work of all such actors
-abbrev pub workBetween : List Actor → List Firing → List Tick → ℕ → Tick → Tick → Tick
-workBetween actors firings starts p a b =
-    tick (sum (λ i. countedOf (actorIn actors i) (firingsAt firings i) (tickAt starts i) p a b .0) ACTORS)
-
--- for each actor, on its processor: the work of those that start no earlier, and of those that start no later
-abbrev pub sincesOf : List Actor → List Firing → List Tick → Tick → List Tick
-sincesOf actors firings starts startup =
-    tab ACTORS (λ i. workBetween actors firings starts (actorIn actors i .processor) (tickAt starts i) startup)
-
-abbrev pub untilsOf : List Actor → List Firing → List Tick → List Tick
-untilsOf actors firings starts = tab ACTORS (λ i. workBetween actors firings starts (actorIn actors i .processor) (tick 0) (tickAt starts i))
+-- the same of actor i's processor and its start
+abbrev pub worksAt : List Actor → List Firing → List Tick → ℕ → Works
+worksAt actors firings starts i = worksOf actors firings starts (actorIn actors i .processor) (tickAt starts i)
 
 -- a mode with these numbers, as it runs
 abbrev pub preparedOf : ℕ → List Actor → Tick → List Firing → List Tick → List Tick → Tick → Tick → Running
@@ -69,6 +70,5 @@ preparedOf active actors iteration firings periods starts sinkStart startup =
       starts = starts;
       «sink_start» = sinkStart;
       startup = startup;
-      since = sincesOf actors firings starts startup;
-      until = untilsOf actors firings starts;
+      works = tab ACTORS (worksAt actors firings starts);
     }

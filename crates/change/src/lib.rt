@@ -4,8 +4,7 @@ mod work;
 
 use crate::wait::offset_of;
 use crate::wait::overlap_of;
-use crate::work::sinces;
-use crate::work::untils;
+use crate::work::works_of;
 use tables::Actor;
 use units::Firing;
 use units::Tick;
@@ -15,8 +14,14 @@ ghost use Rattle.change.specs.Work.{Fitting, preparedOf};
 ghost use Rattle.change.specs.Change.{Changes};
 ghost use Rattle.change.specs.Running.{timesIn, Ready};
 
-// A mode as it runs: its active actors, their firings, periods and starts, its iteration, the tick set for the sink's first firing, and the tick at which its start-up ends.
-// Of each actor's processor: the work in an iteration of the actors that start no earlier than this one, and of those that start no later.
+// The work in an iteration of the actors on a processor that start no earlier than one of them, and of those that start no later.
+pub struct Works {
+    pub since: Tick,
+    pub until: Tick,
+}
+
+// A mode as it runs: its active actors, their firings, periods and starts, its iteration, the tick set for the sink's first firing, and the tick at which its start-up ends;
+// and of each actor the works on its processor.
 pub struct Running {
     pub active: u16,
     pub actors: [Actor; ACTORS],
@@ -26,8 +31,7 @@ pub struct Running {
     pub starts: [Tick; ACTORS],
     pub sink_start: Tick,
     pub startup: Tick,
-    pub since: [Tick; ACTORS],
-    pub until: [Tick; ACTORS],
+    pub works: [Works; ACTORS],
 }
 
 // The timing of a change: its overlap, its offset and its worst delay.
@@ -51,6 +55,15 @@ pub fn prepare(
     requires { ⌜ Fitting actors firings starts ⌝ }
     ensures { λ r. ⌜ r ≡ preparedOf active actors iteration firings periods starts «sink_start» startup ⌝ }
 {
+    let none = Works {
+        since: Tick::NONE,
+        until: Tick::NONE,
+    };
+    let mut works = [none; ACTORS];
+    for i in 0..ACTORS {
+        let actor = actors[i];
+        works[i] = works_of(actors, firings, starts, actor.processor, starts[i]);
+    }
     Running {
         active: active,
         actors: actors,
@@ -60,8 +73,7 @@ pub fn prepare(
         starts: starts,
         sink_start: sink_start,
         startup: startup,
-        since: sinces(actors, firings, starts, startup),
-        until: untils(actors, firings, starts),
+        works: works,
     }
 }
 
@@ -71,7 +83,7 @@ pub fn change(old: Running, new: Running) -> Timing
     ensures { λ r. ⌜ Changes (timesIn old) (timesIn new) r ⌝ }
 {
     let overlap = overlap_of(old, new);
-    let offset = overlap.greater(offset_of(old, new));
+    let offset = offset_of(old, new, overlap);
     Timing {
         overlap: overlap,
         offset: offset,

@@ -43,37 +43,41 @@ fn wait(old: Side, new: Side) -> Tick
     if old.processor != new.processor {
         return Tick::NONE;
     }
-    if old.start.at_most(new.start) {
-        return Tick::NONE;
-    }
     if at_most(plus(old.asked, new.asked), LOAD_LIMIT) {
         return Tick::NONE;
     }
     old.start.minus(new.start)
 }
 
-// How long the new mode waits for the old one: the longest that one of its actors waits for one of the old.
-pub(crate) fn offset_of(old: Running, new: Running) -> Tick
+// How long the new mode waits for the old one, and at least so long: the longest that one of its actors waits for one of the old.
+// What a pair asks is added only where its wait would be longer.
+pub(crate) fn offset_of(old: Running, new: Running, least: Tick) -> Tick
     requires { ⌜ Ready old × Ready new ⌝ }
-    ensures { λ r. ⌜ r ≡ offsetFrom limitOf old new ⌝ }
+    ensures { λ r. ⌜ r ≡ offsetFrom limitOf old new least ⌝ }
 {
-    let mut most = Tick::NONE;
+    let mut most = least;
     for n in 0..ACTORS * ACTORS {
         let i = n / ACTORS;
         let j = n % ACTORS;
-        let before = old.actors[i];
-        let after = new.actors[j];
-        let left = Side {
-            processor: before.processor,
-            start: old.starts[i],
-            asked: period::share(old.since[i], old.iteration),
-        };
-        let entered = Side {
-            processor: after.processor,
-            start: new.starts[j],
-            asked: period::share(new.until[j], new.iteration),
-        };
-        most = most.greater(wait(left, entered));
+        let start = old.starts[i];
+        let other = new.starts[j];
+        if !start.minus(other).at_most(most) {
+            let before = old.actors[i];
+            let after = new.actors[j];
+            let leaving = old.works[i];
+            let entering = new.works[j];
+            let left = Side {
+                processor: before.processor,
+                start: start,
+                asked: period::share(leaving.since, old.iteration),
+            };
+            let entered = Side {
+                processor: after.processor,
+                start: other,
+                asked: period::share(entering.until, new.iteration),
+            };
+            most = most.greater(wait(left, entered));
+        }
     }
     most
 }

@@ -1,92 +1,45 @@
-// The work of the actors that start between two ticks.
+// The work of the actors on a processor, by their starts.
+use crate::Works;
 use tables::Actor;
 use units::Firing;
 use units::Tick;
 use units::limits::ACTORS;
 ghost use mathlib.Core.Path.{_≡_};
-ghost use Prim.Native.Nat.{_≤_};
-ghost use Rattle.units.specs.Bounds.{MOST-FIRINGS};
-ghost use Rattle.units.specs.Limits.{MOST-WCET};
-ghost use Rattle.change.specs.Work.{Fitting, countedOf, workBetween, sincesOf, untilsOf};
+ghost use mathlib.Core.Bool.{cond};
+ghost use Rattle.units.specs.Ticks.{tick};
+ghost use Rattle.change.specs.Work.{Fitting, worksOf};
 
-// The ticks of an iteration that an actor works, where it is on the processor and starts between the two ticks; none otherwise.
-fn counted(
-    actor: Actor,
-    firings: Firing,
+// The work of an actor that counts, and none of another.
+fn counted(counts: bool, work: Tick) -> Tick
+    ensures { λ r. ⌜ r ≡ cond counts work (tick 0) ⌝ }
+{
+    if counts { work } else { Tick::NONE }
+}
+
+// The work on a processor since a start and until it.
+pub(crate) fn works_of(
+    actors: [Actor; ACTORS],
+    firings: [Firing; ACTORS],
+    starts: [Tick; ACTORS],
+    processor: usize,
     start: Tick,
-    processor: usize,
-    from: Tick,
-    to: Tick,
-) -> Tick
-    requires { ⌜ (actor .wcet .0 ≤ MOST-WCET .0) × (firings .0 ≤ MOST-FIRINGS .0) ⌝ }
-    ensures { λ r. ⌜ r ≡ countedOf actor firings start processor from to ⌝ }
-{
-    if actor.processor != processor {
-        return Tick::NONE;
-    }
-    if !from.at_most(start) {
-        return Tick::NONE;
-    }
-    if !start.at_most(to) {
-        return Tick::NONE;
-    }
-    period::work(actor.wcet, firings)
-}
-
-fn work_between(
-    actors: [Actor; ACTORS],
-    firings: [Firing; ACTORS],
-    starts: [Tick; ACTORS],
-    processor: usize,
-    from: Tick,
-    to: Tick,
-) -> Tick
+) -> Works
     requires { ⌜ Fitting actors firings starts ⌝ }
-    ensures { λ r. ⌜ r ≡ workBetween actors firings starts processor from to ⌝ }
+    ensures { λ r. ⌜ r ≡ worksOf actors firings starts processor start ⌝ }
 {
-    let mut work = Tick::NONE;
+    let mut since = Tick::NONE;
+    let mut until = Tick::NONE;
     for k in 0..ACTORS {
-        work = work.plus(counted(actors[k], firings[k], starts[k], processor, from, to));
+        let actor = actors[k];
+        if actor.processor == processor {
+            let work = period::work(actor.wcet, firings[k]);
+            let other = starts[k];
+            since = since.plus(counted(start.at_most(other), work));
+            until = until.plus(counted(other.at_most(start), work));
+        }
     }
-    work
-}
-
-pub(crate) fn sinces(
-    actors: [Actor; ACTORS],
-    firings: [Firing; ACTORS],
-    starts: [Tick; ACTORS],
-    startup: Tick,
-) -> [Tick; ACTORS]
-    requires { ⌜ Fitting actors firings starts ⌝ }
-    ensures { λ r. ⌜ r ≡ sincesOf actors firings starts startup ⌝ }
-{
-    let mut since = [Tick::NONE; ACTORS];
-    for i in 0..ACTORS {
-        let actor = actors[i];
-        since[i] = work_between(actors, firings, starts, actor.processor, starts[i], startup);
+    Works {
+        since: since,
+        until: until,
     }
-    since
-}
-
-pub(crate) fn untils(
-    actors: [Actor; ACTORS],
-    firings: [Firing; ACTORS],
-    starts: [Tick; ACTORS],
-) -> [Tick; ACTORS]
-    requires { ⌜ Fitting actors firings starts ⌝ }
-    ensures { λ r. ⌜ r ≡ untilsOf actors firings starts ⌝ }
-{
-    let mut until = [Tick::NONE; ACTORS];
-    for i in 0..ACTORS {
-        let actor = actors[i];
-        until[i] = work_between(
-            actors,
-            firings,
-            starts,
-            actor.processor,
-            Tick::NONE,
-            starts[i],
-        );
-    }
-    until
 }

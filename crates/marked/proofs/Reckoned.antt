@@ -11,7 +11,6 @@ use Rattle.numbers.specs.Filled.{filled-whole}
 use Rattle.numbers.specs.Tab.{tab, length-tab, getD-tab, getD-replicated}
 use Rattle.units.specs.Limits.{MODES, limitOf}
 use Rattle.units.specs.declared.Tick.{Tick}
-use Rattle.units.specs.Ticks.{greaterTick}
 use Rattle.terms.specs.Refusal.{refusalAt}
 use Rattle.terms.specs.declared.refusal.Place.the-variants.{Mode as AtMode, Actor as AtActor, Processor as AtProcessor}
 use Rattle.terms.specs.declared.refusal.Refusal.{Refusal}
@@ -95,19 +94,19 @@ changeBy old new d = record { overlap = overlapOf old new; offset = d; worst = w
 abbrev changeFor : Running → Running → ℕ → ℕ → Timing
 changeFor old new k l =
     cond (not (eqb (old .active) 0) && (not (eqb (new .active) 0) && not (eqb k l)))
-    (changeBy old new (greaterTick (overlapOf old new) (offsetFrom limitOf old new)))
+    (changeBy old new (offsetFrom limitOf old new (overlapOf old new)))
     noTiming
 
 between : (old new : Running) (k l : ℕ) → ((old .active ≡ 0 → ⊥) → Ready old) → ((new .active ≡ 0 → ⊥) → Ready new) → Between old new k l (changeFor old new k l)
 between old new k l ready-old ready-new = go (eqb (old .active) 0) (eqb (new .active) 0) (eqb k l) refl refl refl
   where
     go : (a b c : Bool) → eqb (old .active) 0 ≡ a → eqb (new .active) 0 ≡ b → eqb k l ≡ c
-        → Between old new k l (cond (not a && (not b && not c)) (changeBy old new (greaterTick (overlapOf old new) (offsetFrom limitOf old new))) noTiming)
+        → Between old new k l (cond (not a && (not b && not c)) (changeBy old new (offsetFrom limitOf old new (overlapOf old new))) noTiming)
     go true b c e f g = ((λ x y z. absurd (x (eqb-true _ _ e))), (λ n. refl))
     go false true c e f g = ((λ x y z. absurd (y (eqb-true _ _ f))), (λ n. refl))
     go false false true e f g = ((λ x y z. absurd (z (eqb-true _ _ g))), (λ n. refl))
     go false false false e f g =
-        let (x, d) = found old new (ready-old (eqb-false _ _ e)) (ready-new (eqb-false _ _ f)) refl refl refl in
+        let (x, d) = found old new (ready-old (eqb-false _ _ e)) (ready-new (eqb-false _ _ f)) refl refl in
         ((λ _ _ _. record { overlap = x; offset = d; worst = refl }), (λ n. absurd (n (eqb-false _ _ e, eqb-false _ _ f, eqb-false _ _ g))))
 
 -- the plan of a table

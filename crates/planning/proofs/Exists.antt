@@ -10,7 +10,6 @@ use native.Mathlib.Decide.{ℕ-discrete}
 use lib.ListN.{set}
 use Rattle.numbers.specs.Filled.{filled-none, filled-set}
 use Rattle.units.specs.Limits.{MODES, limitOf}
-use Rattle.units.specs.Ticks.{greaterTick}
 use Rattle.terms.specs.declared.refusal.Refusal.{Refusal}
 use Rattle.terms.specs.Place.{numberOf}
 use Rattle.tables.specs.declared.Mode.{Mode}
@@ -65,8 +64,8 @@ change-found old new k l ready-old ready-new = go (ℕ-discrete (old .active) 0)
     go (no a) (yes b) c = (noTiming, ((λ x y z. absurd (y b)), (λ n. refl)))
     go (no a) (no b) (yes c) = (noTiming, ((λ x y z. absurd (z c)), (λ n. refl)))
     go (no a) (no b) (no c) =
-        let (overlap, offset) = found old new (ready-old a) (ready-new b) refl refl refl in
-        let d = greaterTick (overlapOf old new) (offsetFrom limitOf old new) in (
+        let (overlap, offset) = found old new (ready-old a) (ready-new b) refl refl in
+        let d = offsetFrom limitOf old new (overlapOf old new) in (
           record { overlap = overlapOf old new; offset = d; worst = worstOf (timesIn old) (timesIn new) d },
           ((λ x y z. record { overlap = overlap; offset = offset; worst = refl }), (λ n. absurd (n (a, b, c)))),
         )

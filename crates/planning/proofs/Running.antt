@@ -106,8 +106,7 @@ module _ (m : Mode) (proper : ProperMode m) where
         some-tick = iteration-pos m proper x some (n .iteration);
         iteration = n .within;
         load = borne x p period (w .bearable);
-        since = refl;
-        until = refl;
+        works = refl;
       }
 
 module _ (t : Table) (proper : ProperTable t) where

@@ -74,8 +74,7 @@ noRunning =
       starts = [];
       «sink_start» = tick 0;
       startup = tick 0;
-      since = [];
-      until = [];
+      works = [];
     }
 
 -- a mode that is not listed, as it runs: nothing does

@@ -2,6 +2,7 @@
 use crate::ModePlan;
 use change::Running;
 use change::Timing;
+use change::Works;
 use change::change;
 use change::prepare;
 use tables::Actor;
@@ -38,6 +39,10 @@ fn idle() -> Running
         wcet: Tick::NONE,
         processor: 0,
     };
+    let works = Works {
+        since: Tick::NONE,
+        until: Tick::NONE,
+    };
     Running {
         active: 0,
         actors: [actor; ACTORS],
@@ -47,8 +52,7 @@ fn idle() -> Running
         starts: [Tick::NONE; ACTORS],
         sink_start: Tick::NONE,
         startup: Tick::NONE,
-        since: [Tick::NONE; ACTORS],
-        until: [Tick::NONE; ACTORS],
+        works: [works; ACTORS],
     }
 }
 
