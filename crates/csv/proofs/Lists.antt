@@ -88,11 +88,6 @@ module _ {s : List ℕ} {at most n end : ℕ} (w : Listed s at most n end) (x : 
   item-first : drop at s ≡ spaced (x ∷ xs) → (x ≡ n) × (behind xs ≡ drop end s)
   item-first e = parted-one x n (behind xs) (drop end s) (behind-parted xs) (w .parted) (sym (spaced-first x xs) ∙ sym e ∙ item-text w)
 
-  pub item-alone : end ≡ length s → drop at s ≡ spaced (x ∷ xs) → (x ≡ n) × (xs ≡ [])
-  item-alone l e =
-      let f = item-first e in
-      (f .0, behind-none xs (f .1 ∙ ap (λ (k : ℕ). drop k s) l ∙ drop-length s))
-
   pub item-then : end < length s → (drop at s ≡ spaced (x ∷ xs)) ↔ ((x ≡ n) × (0 < length xs) × (drop (end + 1) s ≡ spaced xs))
   item-then l = (
     λ e. let f = item-first e in let g = behind-some xs (drop (end + 1) s) (f .1 ∙ item-space w l) in (f .0, g .0, g .1),

@@ -55,9 +55,6 @@ module _ (m : Mode) (x : ℕ → ℕ) where
       work : (i : ℕ) → Active m i → workIn m y i .0 ≡ n * workIn m x i .0
       work i a = omega (arith, ap (λ (k : ℕ). k * actorAt m i .wcet .0) (firings i a))
 
-  pub iteration-times : (n : ℕ) {h : Tick} → 1 ≤ n → Iteration m x h → Iteration m (λ i. n * x i) (tick (n * h .0))
-  iteration-times n pos iteration = iteration-scaled (λ i. n * x i) n pos (λ i a. refl) iteration
-
   -- only the counts of actors matter
   pub iteration-same : (y : ℕ → ℕ) {h : Tick} → ((i : ℕ) → Active m i → x i ≡ y i) → Iteration m x h → Iteration m y h
   iteration-same y {h} same iteration =

@@ -2,7 +2,7 @@
 use mathlib.Core.Path.{_≡_, refl, ap₂}
 use mathlib.Core.Logic.{_↔_, ⊎-elim}
 use Prim.Native.Nat.{ℕ, zero, suc, _≤_, _<_, max, _+_}
-use native.Mathlib.Nat.{le-antisymm, lt-irrefl, lt-of-not-le, lt-of-lt-of-le, not-suc-le-zero, le-of-suc-le-suc, eq-or-lt-of-le, le-refl}
+use native.Mathlib.Nat.{le-antisymm, lt-of-lt-of-le, not-suc-le-zero, le-of-suc-le-suc, eq-or-lt-of-le, le-refl}
 use native.Mathlib.Omega.{arith}
 use native.Mathlib.Decide.{decLe}
 use native.Mathlib.Numerals.{add-one}
@@ -26,16 +26,6 @@ least-unique P {n} {m} p q = le-antisymm (p .least m (q .holds)) (q .least n (p 
 
 pub greatest-unique : (P : ℕ → Type 0) {n m : ℕ} → Greatest P n → Greatest P m → n ≡ m
 greatest-unique P {n} {m} p q = le-antisymm (q .greatest n (p .holds)) (p .greatest m (q .holds))
-
-pub first-unique : (P : ℕ → Type 0) {n m : ℕ} → ExactlyFirst P n → ExactlyFirst P m → n ≡ m
-first-unique P {n} {m} p q = le-antisymm (at-most p q) (at-most q p)
-  where
-    at-most : {a b : ℕ} → ExactlyFirst P a → ExactlyFirst P b → a ≤ b
-    at-most {a} {b} f g = go (decLe a b)
-      where
-        go : Dec (a ≤ b) → a ≤ b
-        go (yes h) = h
-        go (no h) = absurd (lt-irrefl b (g b .1 (f b .0 (lt-of-not-le h))))
 
 -- the greatest of the first n values of a function; 0 where there is none
 unfoldable pub mostOf : (ℕ → ℕ) → ℕ → ℕ

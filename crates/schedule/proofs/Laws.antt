@@ -7,7 +7,6 @@ use Rattle.units.specs.Bounds.{MOST-WAIT, MOST-START}
 use Rattle.units.specs.Limits.{ACTORS}
 use Rattle.units.specs.declared.Tick.{Tick}
 use Rattle.tables.specs.declared.Mode.{Mode}
-use Rattle.tables.specs.Shape.{Active}
 use Rattle.tables.specs.Proper.{ProperMode}
 use Rattle.graph.specs.declared.Verdict.the-variants.{Sound as IsSound}
 use Rattle.graph.specs.declared.Judgement.{Judgement}
@@ -15,7 +14,6 @@ use Rattle.graph.specs.Judged.{Judged}
 use Rattle.schedule.specs.Starts.{Starts}
 use Rattle.schedule.specs.Reached.{startAt, Reached}
 use Rattle.schedule.specs.Model.{startsOf}
-use Rattle.schedule.proofs.Sound.{numbers-of}
 use Rattle.schedule.proofs.Finding.{reached-starts}
 use Rattle.schedule.proofs.Unique.{starts-unique}
 use Rattle.schedule.proofs.Modelled.{ready, starts-found}
@@ -27,10 +25,6 @@ module _ (m : Mode) (j : Judgement) (proper : ProperMode m) (judged : Judged m j
   -- there are such starts
   pub starts-exist : Starts m (j .periods) (startAt (startsOf m (j .periods) (j .depths)))
   starts-exist = reached-starts m (j .periods) (j .depths) (ready m j proper judged sound) _ found
-
-  -- the sink is an actor
-  pub sink-active : Active m (j .sink)
-  sink-active = let (x, n, p) = numbers-of judged sound in (p .ends .1 .0 .0, p .ends .1 .0 .1)
 
   module _ (s : ℕ → Tick) (starts : Starts m (j .periods) s) where
     of-found : (P : (ℕ → Tick) → Type 0) → P (startAt (startsOf m (j .periods) (j .depths))) → P s
