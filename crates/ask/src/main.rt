@@ -1,5 +1,5 @@
 // A machine on the plan of the table on standard input: the first argument is the starting mode, each further one a request, MODE@CLOCK.
-use asking::call;
+use calls::call;
 use libc::STDIN_FILENO;
 use units::limits::MOST_BYTES;
 

@@ -1,5 +1,5 @@
 // Runs the marked requests without a star on the printed table: the arguments are the starting mode and the requests.
-use asking::call;
+use calls::call;
 
 fn main() {
     let text =

@@ -1,6 +1,6 @@
 // The tables and the calls of the vectors, one after the other. An argument that ends in .csv names a table; where the next one is a starting mode, those up to the
 // next table are requests, and otherwise the table's plan is printed.
-use asking::call;
+use calls::call;
 use libc::STDOUT_FILENO;
 use units::limits::MOST_BYTES;
 

@@ -5,7 +5,7 @@ use mathlib.Core.List.{List, _∷_, _++_}
 use Prim.Native.Nat.{ℕ, _^_, _<_}
 use Rattle.units.specs.Ticks.{tick}
 use Rattle.csv.specs.Decimal.{decimal}
-use Rattle.argument.specs.declared.Request.{Request}
+use Rattle.arguments.specs.declared.Request.{Request}
 
 abbrev pub aRequest : ℕ → ℕ → Request
 aRequest mode clock = record { good = true; mode = mode; clock = tick clock }

@@ -1,9 +1,9 @@
--- asking::session::run meets its contract. Assumes nothing.
+-- calls::session::run meets its contract. Assumes nothing.
 use borrow.Author.Needs.{needs}
 use Prim.Native.Nat.{_-_}
 use native.Mathlib.Omega.{arith}
-use Rattle.asking.proofs.session.run.Statement.{statement}
-use Rattle.asking.proofs.session.run.Tie as tie
+use Rattle.calls.proofs.session.run.Statement.{statement}
+use Rattle.calls.proofs.session.run.Tie as tie
 
 abbrev Inv-loop : tie.InvT-loop
 Inv-loop words first end now₀ i₀ now i = Unit {0}

@@ -1,9 +1,9 @@
--- asking::session::first_bad meets its contract. The invariant: i is not before the first argument. Assumes nothing.
+-- calls::session::first_bad meets its contract. The invariant: i is not before the first argument. Assumes nothing.
 use borrow.Author.Needs.{needs}
 use Prim.Native.Nat.{_-_, _≤_}
 use native.Mathlib.Omega.{arith}
-use Rattle.asking.proofs.session.first_bad.Statement.{statement}
-use Rattle.asking.proofs.session.first_bad.Tie as tie
+use Rattle.calls.proofs.session.first_bad.Statement.{statement}
+use Rattle.calls.proofs.session.first_bad.Tie as tie
 
 abbrev Inv-loop : tie.InvT-loop
 Inv-loop first end i₀ i = first ≤ i

@@ -9,7 +9,7 @@ use Rattle.planner.specs.Plans.{Plans}
 use Rattle.machine.specs.declared.Machine.{Machine}
 use Rattle.machine.specs.declared.Answer as Asked
 use Rattle.machine.specs.Answers.{Answers}
-use Rattle.argument.specs.declared.Request.{Request}
+use Rattle.arguments.specs.declared.Request.{Request}
 
 -- the answer to the table of a text, planned into words that hold nothing
 pub record Planned (text : List ℕ) (answer : Answer) : Type 0 where

@@ -15,9 +15,9 @@ use Rattle.csv.specs.declared.decimal.Number.the-variants.{Is, Bad}
 use Rattle.csv.specs.Decimal.{decimal, IsDigit}
 use Rattle.csv.specs.Numbers.{NumberOf}
 use Rattle.csv.proofs.Decimals.{decimal-writes, decimal-is, decimal-injective, writes-digits}
-use Rattle.argument.specs.declared.Request.{Request}
-use Rattle.argument.specs.Argument.{aRequest, noRequest, requestText, RequestOf}
-use Rattle.argument.specs.Sign.{signIn}
+use Rattle.arguments.specs.declared.Request.{Request}
+use Rattle.arguments.specs.Argument.{aRequest, noRequest, requestText, RequestOf}
+use Rattle.arguments.specs.Sign.{signIn}
 
 -- the greatest number of 64 bits
 abbrev pub TOP : ℕ

@@ -7,7 +7,7 @@ use Rattle.layout.specs.Words.{WORDS}
 use Rattle.planner.specs.declared.Answer.{Answer}
 use Rattle.planner.specs.Plans.{Plans}
 use Rattle.planner.proofs.Answering.{plans-unique}
-use Rattle.asking.specs.Call.{Planned}
+use Rattle.calls.specs.Call.{Planned}
 
 pub planned-as : {text words : List ℕ} {x y : Answer} → Plans text (replicate WORDS 0) x words → x ≡ y → Planned text y
 planned-as {words = words} p e = record { words = words; plans = rw (← e) p }

@@ -1,8 +1,8 @@
--- asking::call meets its contract. Assumes nothing.
+-- calls::call meets its contract. Assumes nothing.
 use borrow.Author.Needs.{needs}
-use Rattle.asking.proofs.Calling.{planned-as}
-use Rattle.asking.proofs.call.Statement.{statement}
-use Rattle.asking.proofs.call.Tie as tie
+use Rattle.calls.proofs.Calling.{planned-as}
+use Rattle.calls.proofs.call.Statement.{statement}
+use Rattle.calls.proofs.call.Tie as tie
 
 returns-3 : tie.Need-returns-3
 returns-3 c = planned-as (c .before .before .before .before .before .before .before .plan .ensures) (c .before .before .answer .given .1)

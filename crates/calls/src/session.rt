@@ -1,6 +1,6 @@
 // A machine on the words of a plan, and its answers to the requests among the arguments.
-use argument::Request;
-use argument::request_of;
+use arguments::Request;
+use arguments::request_of;
 use csv::decimal::GREATEST;
 use csv::decimal::Number;
 use csv::decimal::number_of;
@@ -8,7 +8,7 @@ use libc::STDOUT_FILENO;
 use machine::Beginning;
 use machine::Machine;
 use machine::Reply;
-ghost use Rattle.asking.specs.Call.{After};
+ghost use Rattle.calls.specs.Call.{After};
 
 pub(crate) fn number(n: u64) {
     io::write_all(STDOUT_FILENO, b",");

@@ -1,13 +1,13 @@
--- argument::request_of meets its contract. Assumes nothing.
+-- arguments::request_of meets its contract. Assumes nothing.
 use borrow.Author.Needs.{needs}
 use mathlib.Core.Path.{sym, _∙_}
 use native.Mathlib.Nat.{min-eq-left}
 use native.Mathlib.Omega.{arith}
 use denote.Ref.{now}
 use lib.ListN.{length-take}
-use Rattle.argument.proofs.Reading.{by-no-request, unparted, no-mode, no-clock, read-request}
-use Rattle.argument.proofs.request_of.Statement.{statement}
-use Rattle.argument.proofs.request_of.Tie as tie
+use Rattle.arguments.proofs.Reading.{by-no-request, unparted, no-mode, no-clock, read-request}
+use Rattle.arguments.proofs.request_of.Statement.{statement}
+use Rattle.arguments.proofs.request_of.Tie as tie
 
 mode-counted : tie.Need-slice-aggregate-number-of
 mode-counted c =

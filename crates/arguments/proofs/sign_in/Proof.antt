@@ -1,14 +1,14 @@
--- argument::sign_in meets its contract. The invariant: the sign stands where it stands from i on. Assumes nothing.
+-- arguments::sign_in meets its contract. The invariant: the sign stands where it stands from i on. Assumes nothing.
 use borrow.Author.Needs.{needs}
 use mathlib.Core.Path.{_≡_}
 use Prim.Native.Nat.{_+_, _-_}
 use native.Mathlib.Omega.{arith}
 use lib.ListN.{length, drop}
 use denote.Ref.{now}
-use Rattle.argument.specs.Sign.{signIn}
-use Rattle.argument.proofs.Reading.{sign-none, sign-stop, sign-more}
-use Rattle.argument.proofs.sign_in.Statement.{statement}
-use Rattle.argument.proofs.sign_in.Tie as tie
+use Rattle.arguments.specs.Sign.{signIn}
+use Rattle.arguments.proofs.Reading.{sign-none, sign-stop, sign-more}
+use Rattle.arguments.proofs.sign_in.Statement.{statement}
+use Rattle.arguments.proofs.sign_in.Tie as tie
 
 abbrev Inv-loop : tie.InvT-loop
 Inv-loop bytes i₀ i = signIn bytes ≡ i + signIn (drop i bytes)

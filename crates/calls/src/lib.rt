@@ -7,7 +7,7 @@ use planner::Answer;
 use session::begin;
 use session::first_bad;
 use session::number;
-ghost use Rattle.asking.specs.Call.{Planned};
+ghost use Rattle.calls.specs.Call.{Planned};
 
 // Answers the call whose arguments stand from the first up to the end, on the table of a text, and gives the answer to that table.
 pub fn call(text: &[u8], first: usize, end: usize) -> Answer

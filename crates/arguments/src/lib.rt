@@ -4,8 +4,8 @@ use csv::decimal::Number;
 use csv::decimal::number_of;
 use units::Tick;
 ghost use mathlib.Core.Path.{_≡_};
-ghost use Rattle.argument.specs.Argument.{noRequest, RequestOf};
-ghost use Rattle.argument.specs.Sign.{signIn};
+ghost use Rattle.arguments.specs.Argument.{noRequest, RequestOf};
+ghost use Rattle.arguments.specs.Sign.{signIn};
 
 // A request, where the bytes are one: a mode and a clock, as MODE@CLOCK.
 pub struct Request {
