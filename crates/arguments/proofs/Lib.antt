@@ -1,3 +1,4 @@
 -- What the proofs lean on.
-mod Reading
+pub mod Reading
+pub mod Parting
 mod Settled

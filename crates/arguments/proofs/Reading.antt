@@ -24,48 +24,48 @@ abbrev pub TOP : ℕ
 TOP = 18446744073709551615
 
 -- the sign at a place
-module _ (s : List ℕ) (i : ℕ) where
-  pub sign-none : length s ≤ i → signIn (drop i s) ≡ 0
+module _ (sign : ℕ) (s : List ℕ) (i : ℕ) where
+  pub sign-none : length s ≤ i → signIn sign (drop i s) ≡ 0
   unfolding signIn
   sign-none h = rw (drop-of-length-le s h)
 
-  pub sign-stop : i < length s → getD s i 0 ≡ 64 → signIn (drop i s) ≡ 0
+  pub sign-stop : i < length s → getD s i 0 ≡ sign → signIn sign (drop i s) ≡ 0
   unfolding signIn
-  sign-stop l h = rw (drop-cons s i 0 l, eq-eqb (getD s i 0) 64 h)
+  sign-stop l h = rw (drop-cons s i 0 l, eq-eqb (getD s i 0) sign h)
 
-  pub sign-more : i < length s → (getD s i 0 ≡ 64 → ⊥) → signIn (drop i s) ≡ suc (signIn (drop (i + 1) s))
+  pub sign-more : i < length s → (getD s i 0 ≡ sign → ⊥) → signIn sign (drop i s) ≡ suc (signIn sign (drop (i + 1) s))
   unfolding signIn
-  sign-more l h = rw (add-one, drop-cons s i 0 l, ne-eqb (getD s i 0) 64 h)
+  sign-more l h = rw (add-one, drop-cons s i 0 l, ne-eqb (getD s i 0) sign h)
 
 -- a request is parted after its mode
-digits-sign : (s t : List ℕ) → Every IsDigit s → signIn (s ++ (64 ∷ t)) ≡ length s
+digits-sign : (s t : List ℕ) → Every IsDigit s → signIn 64 (s ++ (64 ∷ t)) ≡ length s
 unfolding signIn
 digits-sign [] t h = refl
 digits-sign (b ∷ s) t h = rw (ne-eqb b 64 (λ q. omega (arith, h .0 .1))) (ap suc (digits-sign s t (h .1)))
 
 -- what stands there
-sign-is : (s : List ℕ) → signIn s < length s → getD s (signIn s) 0 ≡ 64
+sign-is : (s : List ℕ) → signIn 64 s < length s → getD s (signIn 64 s) 0 ≡ 64
 unfolding signIn
 sign-is [] l = absurd (omega arith)
 sign-is (b ∷ s) l = go (eqb b 64) refl l (sign-is s)
   where
-    go : (x : Bool) → eqb b 64 ≡ x → cond x 0 (suc (signIn s)) < suc (length s) → (signIn s < length s → getD s (signIn s) 0 ≡ 64)
-        → getD (b ∷ s) (cond x 0 (suc (signIn s))) 0 ≡ 64
+    go : (x : Bool) → eqb b 64 ≡ x → cond x 0 (suc (signIn 64 s)) < suc (length s) → (signIn 64 s < length s → getD s (signIn 64 s) 0 ≡ 64)
+        → getD (b ∷ s) (cond x 0 (suc (signIn 64 s))) 0 ≡ 64
     go true e l ih = eqb-true b 64 e
     go false e l ih = ih (omega arith)
 
 -- the parts of a request
 module _ (s : List ℕ) (mode clock : ℕ) (e : s ≡ requestText mode clock) where
-  at : signIn s ≡ length (decimal mode)
-  at = ap signIn e ∙ digits-sign (decimal mode) (decimal clock) (writes-digits (decimal-writes mode))
+  at : signIn 64 s ≡ length (decimal mode)
+  at = ap (signIn 64) e ∙ digits-sign (decimal mode) (decimal clock) (writes-digits (decimal-writes mode))
 
-  sign-there : signIn s < length s
+  sign-there : signIn 64 s < length s
   sign-there = omega (arith, at, ap length e ∙ length-append (decimal mode) (64 ∷ decimal clock))
 
-  mode-there : take (signIn s) s ≡ decimal mode
+  mode-there : take (signIn 64 s) s ≡ decimal mode
   mode-there = rw (at, e) (take-append-seam (decimal mode) (64 ∷ decimal clock))
 
-  clock-there : drop (signIn s + 1) s ≡ decimal clock
+  clock-there : drop (signIn 64 s + 1) s ≡ decimal clock
   clock-there = ap₂ (λ (k : ℕ) (t : List ℕ). drop (k + 1) t) at e ∙ drop-append-add (decimal mode) (64 ∷ decimal clock) 1
 
 pub request-unique : {s : List ℕ} {x y : Request} → RequestOf s x → RequestOf s y → x ≡ y
@@ -86,11 +86,11 @@ number-bad : (s : List ℕ) {x : Number} → NumberOf s 0 TOP x → x ≡ Bad �
 number-bad s p e n f l = subst (λ (y : Number). NumberOf s 0 TOP y) e p n (omega arith, omega arith) (rw f (decimal-writes n))
 
 -- what is read of a request, by its parts
-module _ (s : List ℕ) (k : ℕ) (at-sign : k ≡ signIn s) where
+module _ (s : List ℕ) (k : ℕ) (at-sign : k ≡ signIn 64 s) where
   abbrev tail : List ℕ
   tail = take (length s - (k + 1)) (drop (k + 1) s)
 
-  rest : tail ≡ drop (signIn s + 1) s
+  rest : tail ≡ drop (signIn 64 s + 1) s
   rest = take-all (length s - (k + 1)) (drop (k + 1) s) (omega (arith, length-drop (k + 1) s)) ∙ rw at-sign
 
   pub unparted : length s ≤ k → RequestOf s noRequest
@@ -105,11 +105,11 @@ module _ (s : List ℕ) (k : ℕ) (at-sign : k ≡ signIn s) where
   pub read-request : {x y : Number} {mode clock : ℕ} → k < length s → NumberOf (take k s) 0 TOP x → x ≡ Is mode → NumberOf tail 0 TOP y → y ≡ Is clock
       → RequestOf s (aRequest mode clock)
   read-request l p e q f =
-      let there : signIn s < length s = omega (arith, at-sign, l) in
+      let there : signIn 64 s < length s = omega (arith, at-sign, l) in
       let m = number-good (take k s) p e in
       let c = number-good tail q f in
       RequestOf.good
-      (split-at s (signIn s) 0 there
-      ∙ ap₂ (λ (b k : ℕ). take (signIn s) s ++ (b ∷ drop k s)) (sign-is s there) (sym (add-one (signIn s)))
+      (split-at s (signIn 64 s) 0 there
+      ∙ ap₂ (λ (b k : ℕ). take (signIn 64 s) s ++ (b ∷ drop k s)) (sign-is s there) (sym (add-one (signIn 64 s)))
       ∙ ap₂ (λ (t u : List ℕ). t ++ (64 ∷ u)) (ap (λ (k : ℕ). take k s) (sym at-sign) ∙ m .0) (sym rest ∙ c .0))
       (m .1) (c .1)

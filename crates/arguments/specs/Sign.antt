@@ -4,7 +4,7 @@ use mathlib.Core.List.{List, [], _∷_}
 use Prim.Native.Nat.{ℕ, suc}
 use lib.Dec.{eqb}
 
--- how many bytes stand before the first @
-unfoldable pub signIn : List ℕ → ℕ
-signIn [] = 0
-signIn (b ∷ t) = cond (eqb b 64) 0 (suc (signIn t))
+-- how many bytes stand before the first that is a sign
+unfoldable pub signIn : ℕ → List ℕ → ℕ
+signIn sign [] = 0
+signIn sign (b ∷ t) = cond (eqb b sign) 0 (suc (signIn sign t))

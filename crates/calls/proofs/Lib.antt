@@ -1,3 +1,5 @@
 -- What the proofs lean on.
-mod Calling
+mod Laying
+mod Asking
+mod Telling
 mod Settled

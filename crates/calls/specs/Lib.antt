@@ -1,2 +1,3 @@
--- What a call is.
-pub mod Call
+-- What the programs print.
+pub mod Prints
+pub mod Fills

@@ -1,32 +1,80 @@
-// Calls: what is printed for their arguments.
+// What the programs `plan` and `ask` print: bytes, laid over a buffer that the caller lends.
+mod lines;
 mod session;
 
+use arguments::end_of;
+use arguments::first_bad;
+use csv::decimal::GREATEST;
+use csv::decimal::Number;
+use csv::decimal::number_of;
 use layout::WORDS;
-use libc::STDOUT_FILENO;
+use lines::bad;
+use lines::refused;
 use planner::Answer;
-use session::begin;
-use session::first_bad;
-use session::number;
-ghost use Rattle.calls.specs.Call.{Planned};
+use planner::Printing;
+use printer::PRINTED;
+use terms::refusal::NO_PLAN;
+use terms::refusal::Place;
+use terms::refusal::Refusal;
+ghost use mathlib.Core.Path.{_≡_};
+ghost use Rattle.planner.specs.Plans.{noPlan};
+ghost use Rattle.arguments.specs.Argument.{argumentsOf};
+ghost use Rattle.calls.specs.Prints.{AskPrints};
+ghost use Rattle.calls.specs.Fills.{Enough, Lays, PlanFills, AskFills};
+pub use lines::LINE;
 
-// Answers the call whose arguments stand from the first up to the end, on the table of a text, and gives the answer to that table.
-pub fn call(text: &[u8], first: usize, end: usize) -> Answer
-    ensures { λ r. ⌜ Planned (now (text .entry)) r ⌝ }
+fn no_room() -> Refusal
+    ensures { λ r. ⌜ r ≡ noPlan ⌝ }
 {
+    let place = Place::Nowhere;
+    Refusal {
+        number: NO_PLAN,
+        place,
+    }
+}
+
+// What `plan` prints for a text, in a buffer of the one length.
+pub fn plan(text: &[u8], out: &mut [u8]) -> Printing
+    ensures { λ r. ⌜ PlanFills (now (text .entry)) (now (out .entry)) r (now (out .exit)) ⌝ }
+{
+    if out.len() != PRINTED {
+        return Printing::Refused(no_room());
+    }
     let mut words = [0u64; WORDS];
     let answer = planner::plan(text, &mut words);
-    let bad = first_bad(first, end);
-    if bad != 0 {
-        io::write_all(STDOUT_FILENO, b"argument");
-        number(bad as u64);
-        io::write_all(STDOUT_FILENO, b"\r\n");
-        return answer;
+    if let Answer::Refused(refusal) = answer {
+        return Printing::Printed(printer::print_refusal(refusal, out));
     }
-    match answer {
-        Answer::Accepted => begin(&words, first, end),
-        Answer::Refused(refusal) => {
-            console::refused(refusal);
-        }
+    planner::print(&words, out)
+}
+
+// The answer to a call.
+fn answer(text: &[u8], arguments: &[u8], out: &mut [u8]) -> usize
+    requires { ⌜ Enough (now arguments) (now out) ⌝ }
+    ensures { λ r. ⌜ Lays (AskPrints (now (text .entry)) (argumentsOf (now (arguments .entry)))) (now (out .entry)) 0 (now (out .exit)) r ⌝ }
+{
+    let end = end_of(arguments, 0);
+    let Number::Is(mode) = number_of(&arguments[..end], 0, GREATEST) else {
+        return bad(out, 1);
+    };
+    let number = first_bad(arguments, end + 1);
+    if number != 0 {
+        return bad(out, number + 1);
     }
-    answer
+    let mut words = [0u64; WORDS];
+    let answer = planner::plan(text, &mut words);
+    if let Answer::Refused(refusal) = answer {
+        return refused(out, 0, refusal);
+    }
+    session::session(out, &words, mode, arguments, end + 1)
+}
+
+// What `ask` prints for a text and its arguments, in a buffer that has room for a line for each byte of them, and one more.
+pub fn ask(text: &[u8], arguments: &[u8], out: &mut [u8]) -> Printing
+    ensures { λ r. ⌜ AskFills (now (text .entry)) (now (arguments .entry)) (now (out .entry)) r (now (out .exit)) ⌝ }
+{
+    if out.len() / LINE <= arguments.len() {
+        return Printing::Refused(no_room());
+    }
+    Printing::Printed(answer(text, arguments, out))
 }

@@ -1,99 +1,94 @@
-// A machine on the words of a plan, and its answers to the requests among the arguments.
+// A machine on the words of a plan, and the lines of its answers to requests, one behind the other.
+use crate::lines::accepted;
+use crate::lines::begun;
+use crate::lines::refused;
 use arguments::Request;
+use arguments::end_of;
 use arguments::request_of;
-use csv::decimal::GREATEST;
-use csv::decimal::Number;
-use csv::decimal::number_of;
-use libc::STDOUT_FILENO;
 use machine::Beginning;
 use machine::Machine;
 use machine::Reply;
-ghost use Rattle.calls.specs.Call.{After};
+ghost use Prim.Native.Nat.{_+_, _-_, _*_, _≤_};
+ghost use lib.ListN.{length, drop};
+ghost use Rattle.arguments.specs.Argument.{argumentsOf};
+ghost use Rattle.calls.specs.Prints.{answerText, Lines, SessionPrints};
+ghost use Rattle.calls.specs.Fills.{LINE as LINE-LIMIT, Enough, Lays, LaysLine, LaysAnswer};
 
-pub(crate) fn number(n: u64) {
-    io::write_all(STDOUT_FILENO, b",");
-    io::print_decimal(STDOUT_FILENO, n);
+// A machine, and the place behind the lines of its answers.
+pub(crate) struct Told {
+    pub machine: Machine,
+    pub end: usize,
 }
 
-fn state(machine: Machine) {
-    number(machine.mode);
-    let started = machine.started;
-    number(started.ticks());
-    let ended = machine.ended;
-    number(ended.ticks());
-    io::write_all(STDOUT_FILENO, b"\r\n");
-}
-
-// The starting mode that argument i is.
-fn mode_at(i: usize) -> Number {
-    let mut arg = [0u8; 64];
-    let k = os::arg(i, &mut arg);
-    number_of(&arg[..k], 0, GREATEST)
-}
-
-// The request that argument i is.
-fn request_at(i: usize) -> Request {
-    let mut arg = [0u8; 64];
-    let k = os::arg(i, &mut arg);
-    request_of(&arg[..k])
-}
-
-// The place of the first argument that is not of its form, counted from 1; 0 where all are.
-pub(crate) fn first_bad(first: usize, end: usize) -> usize {
-    let Number::Is(_) = mode_at(first) else {
-        return 1;
-    };
-    for i in first..end {
-        if i != first {
-            let request = request_at(i);
-            if !request.good {
-                return i - first + 1;
-            }
-        }
+// The line of an answer, with the machine after it.
+fn reply_line(out: &mut [u8], at: usize, reply: Reply, after: Machine) -> usize
+    requires { ⌜ at + LINE-LIMIT ≤ length (now out) ⌝ }
+    ensures { λ r. ⌜ LaysLine (answerText reply after) (now (out .entry)) at (now (out .exit)) r ⌝ }
+{
+    match reply {
+        Reply::Accepted(delay) => accepted(out, at, delay, after),
+        Reply::Refused(refusal) => refused(out, at, refusal),
     }
-    0
 }
 
-// Answers a request, and gives the machine after it.
-fn answered(from: Machine, words: &[u64], request: Request) -> Machine
-    ensures { λ r. ⌜ After (now (words .entry)) from request r ⌝ }
+// The line of the answer to a request, and the machine after it.
+fn answered(out: &mut [u8], at: usize, words: &[u64], machine: Machine, request: Request) -> Told
+    requires { ⌜ at + LINE-LIMIT ≤ length (now out) ⌝ }
+    ensures { λ r. ⌜ LaysAnswer (now (words .entry)) machine request (now (out .entry)) at (now (out .exit)) r ⌝ }
 {
     let clock = request.clock;
-    let answer = from.request(words, request.mode, clock);
+    let answer = machine.request(words, request.mode, clock);
     let reply = answer.reply;
     let after = answer.machine;
-    match reply {
-        Reply::Accepted(delay) => {
-            io::write_all(STDOUT_FILENO, b"accepted");
-            number(delay.ticks());
-            state(after);
-        }
-        Reply::Refused(refusal) => {
-            console::refused(refusal);
-        }
-    }
-    after
-}
-
-fn run(words: &[u64], begun: Machine, first: usize, end: usize) {
-    io::write_all(STDOUT_FILENO, b"machine");
-    state(begun);
-    let mut now = begun;
-    for i in first..end {
-        if i != first {
-            now = answered(now, words, request_at(i));
-        }
+    let end = reply_line(out, at, reply, after);
+    Told {
+        machine: after,
+        end,
     }
 }
 
-pub(crate) fn begin(words: &[u64], first: usize, end: usize) {
-    let Number::Is(mode) = mode_at(first) else {
-        return;
+// The lines of the answers to the requests from a place of the arguments on.
+fn answers(
+    out: &mut [u8],
+    at: usize,
+    words: &[u64],
+    first: Machine,
+    arguments: &[u8],
+    from: usize,
+) -> usize
+    requires { ⌜ Enough (now arguments) (now out) × (at + LINE-LIMIT * (length (now arguments) - from) ≤ length (now out)) ⌝ }
+    ensures { λ r. ⌜ Lays (Lines (now (words .entry)) first (argumentsOf (drop from (now (arguments .entry))))) (now (out .entry)) at (now (out .exit)) r ⌝ }
+{
+    let mut told = Told {
+        machine: first,
+        end: at,
     };
+    let mut place = from;
+    while place < arguments.len() {
+        let end = end_of(arguments, place);
+        let request = request_of(&arguments[place..end]);
+        told = answered(out, told.end, words, told.machine, request);
+        place = end + 1;
+    }
+    told.end
+}
+
+// The lines of a machine that begins in a mode, and of its answers.
+pub(crate) fn session(
+    out: &mut [u8],
+    words: &[u64],
+    mode: u64,
+    arguments: &[u8],
+    from: usize,
+) -> usize
+    requires { ⌜ Enough (now arguments) (now out) × (1 ≤ from) ⌝ }
+    ensures { λ r. ⌜ Lays (SessionPrints (now (words .entry)) mode (argumentsOf (drop from (now (arguments .entry))))) (now (out .entry)) 0 (now (out .exit)) r ⌝ }
+{
     match machine::start(words, mode) {
-        Beginning::Begun(begun) => run(words, begun, first, end),
-        Beginning::Refused(refusal) => {
-            console::refused(refusal);
+        Beginning::Begun(machine) => {
+            let at = begun(out, machine);
+            answers(out, at, words, machine, arguments, from)
         }
+        Beginning::Refused(refusal) => refused(out, 0, refusal),
     }
 }

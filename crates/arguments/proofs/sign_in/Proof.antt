@@ -11,20 +11,20 @@ use Rattle.arguments.proofs.sign_in.Statement.{statement}
 use Rattle.arguments.proofs.sign_in.Tie as tie
 
 abbrev Inv-loop : tie.InvT-loop
-Inv-loop bytes i₀ i = signIn bytes ≡ i + signIn (drop i bytes)
+Inv-loop bytes sign i₀ i = signIn sign bytes ≡ i + signIn sign (drop i bytes)
 
 abbrev μ-loop : tie.MeasureT-loop
-μ-loop bytes i₀ i = length bytes - i
+μ-loop bytes sign i₀ i = length bytes - i
 
 returns : tie.Need-returns Inv-loop μ-loop
 returns c =
     let l = c .before .before .before in
-    omega (arith, l .loop .inv, sign-stop (now (l .before .args .bytes)) (l .loop .i) (c .before .before .loop-test .taken) (c .if1 .taken))
+    omega (arith, l .loop .inv, sign-stop (l .before .args .sign) (now (l .before .args .bytes)) (l .loop .i) (c .before .before .loop-test .taken) (c .if1 .taken))
 
 loop-again : tie.Need-loop-again Inv-loop μ-loop
 loop-again c =
     let l = c .before .before .before in
-    omega (arith, l .loop .inv, sign-more (now (l .before .args .bytes)) (l .loop .i) (c .before .before .loop-test .taken) (c .if1 .left))
+    omega (arith, l .loop .inv, sign-more (l .before .args .sign) (now (l .before .args .bytes)) (l .loop .i) (c .before .before .loop-test .taken) (c .if1 .left))
 
 pub sign-in-spec : {M : Type 1} → statement M
 sign-in-spec =
@@ -38,4 +38,4 @@ sign-in-spec =
     (λ c. search needs)
     (λ c. omega arith)
     loop-again
-    (λ c. omega (arith, c .before .loop .inv, sign-none (now (c .before .before .args .bytes)) (c .before .loop .i) (c .loop-test .left))))
+    (λ c. omega (arith, c .before .loop .inv, sign-none (c .before .before .args .sign) (now (c .before .before .args .bytes)) (c .before .loop .i) (c .loop-test .left))))
