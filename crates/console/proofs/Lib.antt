@@ -1,3 +1,2 @@
 -- What the proofs lean on.
-mod Saying
-mod Settled
+mod Counting

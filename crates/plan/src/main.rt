@@ -4,6 +4,9 @@ use units::limits::MOST_BYTES;
 
 fn main() {
     let mut text = [0u8; MOST_BYTES + 1];
-    let read = io::read_full(STDIN_FILENO, &mut text);
-    console::show(&text[..read]);
+    let input = console::read(STDIN_FILENO, b"standard input", &mut text);
+    let count = input.count;
+    if input.whole {
+        console::plan(&text[..count]);
+    }
 }

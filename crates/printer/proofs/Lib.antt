@@ -1,5 +1,5 @@
 -- What belongs to no one function.
 mod Laying
-mod Digits
+pub mod Digits
 mod Fitting
 mod Settled

@@ -1,7 +1,5 @@
 // The tables and the calls of the vectors, one after the other. An argument that ends in .csv names a table; where the next one is a starting mode, those up to the
 // next table are requests, and otherwise the table's plan is printed.
-use asking::call;
-use libc::STDOUT_FILENO;
 use units::limits::MOST_BYTES;
 
 fn is_table(word: &[u8]) -> bool {
@@ -35,17 +33,21 @@ fn next_table(i: usize) -> usize {
 fn answer(i: usize, first: usize) {
     let mut path = [0u8; 256];
     let k = os::arg(i, &mut path);
-    io::write_all(STDOUT_FILENO, &path[..k]);
-    io::write_all(STDOUT_FILENO, b"\r\n");
+    console::write(&path[..k]);
+    console::write(b"\r\n");
     let file = os::open_read(&path[..k]);
     let mut text = [0u8; MOST_BYTES + 1];
-    let read = io::read_full(file, &mut text);
+    let input = console::read(file, &path[..k], &mut text);
     libc::close(file);
+    if !input.whole {
+        return;
+    }
+    let count = input.count;
     let end = next_table(first);
     if first == end {
-        console::show(&text[..read]);
+        console::plan(&text[..count]);
     } else {
-        call(&text[..read], first, end);
+        console::ask(&text[..count], first, end);
     }
 }
 

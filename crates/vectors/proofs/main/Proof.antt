@@ -1,4 +1,4 @@
--- asks::main meets its contract. Assumes nothing.
+-- vectors::main meets its contract. Assumes nothing.
 use borrow.Author.Needs.{needs}
 use Prim.Native.Nat.{_-_, _<_, _^_}
 use native.Mathlib.Omega.{arith}

@@ -1,4 +1,4 @@
--- asks::next_table meets its contract. Assumes nothing.
+-- vectors::next_table meets its contract. Assumes nothing.
 use borrow.Author.Needs.{needs}
 use Prim.Native.Nat.{_-_, _<_, _^_}
 use native.Mathlib.Omega.{arith}

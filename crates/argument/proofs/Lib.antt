@@ -1,3 +1,0 @@
--- What the proofs lean on.
-mod Reading
-mod Settled

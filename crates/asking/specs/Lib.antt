@@ -1,2 +1,0 @@
--- What a call is.
-pub mod Call

@@ -1,0 +1,5 @@
+-- What the proofs lean on.
+mod Laying
+mod Asking
+mod Telling
+mod Settled

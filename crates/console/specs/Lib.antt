@@ -1,2 +1,0 @@
--- What the programs say.
-pub mod Says
