@@ -6,7 +6,15 @@
  * refusal: the five numbers of the refusal's line, which are number, row, mode, actor and processor, with 0 where none is named; all 0 where nothing
  * is refused.
  *
- * machine: the three numbers of a machine, which are its mode, its starting tick and the tick at which its change ends.
+ * What each number is given for is in docs/REFUSALS.md, and which word of a plan holds what in docs/PLAN.md.
+ *
+ * machine: the three numbers of a machine, which are its mode, its starting tick and the tick at which its change ends. That no stage ever takes a
+ * token that isn't there, no buffer ever holds more than its size and no processor is ever asked for more than its whole time is promised of a
+ * machine that is handed on unaltered, with the words with which it was started.
+ *
+ * When stages stop and start: after an accepted request the machine's starting tick is F + d, where d is the offset that the plan has for the two
+ * modes and F the tick at which the old mode is left. A stage of the old mode fires no more from F + its start in that mode on; a stage of the new
+ * mode fires from F + d + its start in the new one on.
  *
  * What the proofs assume of the caller: a pointer is valid for as many elements as stand beside it, or in its brackets, is aligned for them, and is
  * not NULL even where there are none; what lies there has been set before; and no two pointers of one call lead to the same memory.
