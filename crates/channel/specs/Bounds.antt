@@ -57,18 +57,6 @@ module _ (p c : End) (w : Paced p c) where
   pub brief-c : Brief c
   brief-c = record { proper = w .consumer; cycle = cycle-c p c w }
 
-pub cycle-most : (e : End) → Proper e → cycleTokens e .0 ≤ MOST-TOKENS .0
-cycle-most e h = le-trans (tokens-most e h (e .phases) (le-refl (e .phases))) (mul-le-mul-right (MOST-RATE .0) (h .phases))
-
-module _ (p c : End) where
-  -- the step and the pace, from what they are made of
-  pub step-is : {made taken : Token} {cycle : Tick} {w : Step} → made ≡ cycleTokens p → cycle ≡ cycleTicks p → taken ≡ cycleTokens c → IsStep made cycle taken w → w ≡ stepOf p c
-  step-is {made} {taken} {cycle} {w} em ec et is =
-      step-unique (cycleTokens p) (cycleTicks p) (cycleTokens c) (rw (em, ec, et) at is) (record { tokens = gcd-of (cycleTokens p .0) (cycleTokens c .0); ticks = refl })
-
-  pub common-pos : Paced p c → 0 < stepOf p c .tokens .0
-  common-pos w = in-step p c w 1 .some-g
-
 -- what a start is reckoned with: a pace with one cycle of the producer, and a phase not long after the start
 pub record Short (w : Pace) : Type 0 where
   pub some : 0 < w .step .tokens .0
@@ -91,6 +79,29 @@ MANY = timesTokens (2 * MOST-START .0 + 3 * ITERATION-LIMIT .0 + 1) MOST-TOKENS
 pub record Near (m : Mark) : Type 0 where
   pub later : m .later .0 ≤ FAR .0
   pub sooner : m .sooner .0 ≤ FAR .0
+
+-- what a size is reckoned with: a pace with some cycles of the producer
+pub record Long (w : Pace) : Type 0 where
+  pub some : 0 < w .step .ticks .0
+  pub common : w .step .tokens .0 ≤ MOST-TOKENS .0
+  pub tokens : w .tokens .0 ≤ MOST-ADDED * MOST-TOKENS .0
+  pub ticks : w .ticks .0 ≤ MOST-SPAN .0
+
+pub record Few (h : Hold) : Type 0 where
+  pub more : h .more .0 ≤ MANY .0
+  pub fewer : h .fewer .0 ≤ MANY .0
+
+pub cycle-most : (e : End) → Proper e → cycleTokens e .0 ≤ MOST-TOKENS .0
+cycle-most e h = le-trans (tokens-most e h (e .phases) (le-refl (e .phases))) (mul-le-mul-right (MOST-RATE .0) (h .phases))
+
+module _ (p c : End) where
+  -- the step and the pace, from what they are made of
+  pub step-is : {made taken : Token} {cycle : Tick} {w : Step} → made ≡ cycleTokens p → cycle ≡ cycleTicks p → taken ≡ cycleTokens c → IsStep made cycle taken w → w ≡ stepOf p c
+  step-is {made} {taken} {cycle} {w} em ec et is =
+      step-unique (cycleTokens p) (cycleTicks p) (cycleTokens c) (rw (em, ec, et) at is) (record { tokens = gcd-of (cycleTokens p .0) (cycleTokens c .0); ticks = refl })
+
+  pub common-pos : Paced p c → 0 < stepOf p c .tokens .0
+  common-pos w = in-step p c w 1 .some-g
 
 -- an array that is filled with f 0, f 1, .. of which every one has the property P
 given-ready : {A : Type 0} (z : A) (P : A → Type 0) (f : ℕ → A) (n : ℕ) (l : List A) → ((s : ℕ) → s < n → P (f s)) → FilledBy PHASES f z l n
@@ -159,17 +170,6 @@ start-from p sp c w l e g =
     (λ i. tick (most-same _ _ (c .phases) (λ f hf. ap (λ (v : ℕ). cond (eqb (rateOf (ratesOf c) f) 0) 0 v)
     (most-same _ _ (p .phases) (λ s hs. ap (λ (m : Mark). waitOf (w .step .ticks) m (takeAt w c f) .0) (g .each s hs)))) i))
     ∙ ap (λ (w : Pace). latestOf (giveAt 0 w p sp) (p .phases) w c) e
-
--- what a size is reckoned with: a pace with some cycles of the producer
-pub record Long (w : Pace) : Type 0 where
-  pub some : 0 < w .step .ticks .0
-  pub common : w .step .tokens .0 ≤ MOST-TOKENS .0
-  pub tokens : w .tokens .0 ≤ MOST-ADDED * MOST-TOKENS .0
-  pub ticks : w .ticks .0 ≤ MOST-SPAN .0
-
-pub record Few (h : Hold) : Type 0 where
-  pub more : h .more .0 ≤ MANY .0
-  pub fewer : h .fewer .0 ≤ MANY .0
 
 module _ (w : Pace) (t : Tick) (n : Token) (h : Long w) (e : Early t n) where
   pub claiming-few : Few (claimingOf w t n)

@@ -15,6 +15,23 @@ use Rattle.units.specs.Ticks.{tick}
 use Rattle.period.specs.Period.{HaveBegun, HaveEnded, begun-before, begun-since, ended-before, ended-since}
 use Rattle.channel.specs.Cycles.{Matched, covered, reached, apart}
 
+-- what a pair comes to: more, less what is fewer, and less a unit besides where the rest is short
+abbrev pub beyond : ℕ → ℕ → ℕ → ℕ → ℕ → ℕ
+beyond rest rest′ more fewer unit = more - cond (leb rest rest′) fewer (fewer + unit)
+
+-- The producer makes rp i in firing i, with period tp from sp on; the consumer takes rc i, with period tc from sc on; x tokens are there at the start.
+-- No firing takes a token not yet there:
+abbrev pub FedBy : (ℕ → ℕ) → (ℕ → ℕ) → ℕ → ℕ → ℕ → ℕ → ℕ → Type 0
+FedBy rp rc tp tc x sp sc = (n : ℕ) → 0 < rc n → (e : ℕ) → ExactlyFirst (λ k. sp + (k + 1) * tp ≤ sc + n * tc) e → sum rc (n + 1) ≤ x + sum rp e
+
+-- v places are claimed at tick t:
+pub record ClaimedBy (rp rc : ℕ → ℕ) (tp tc x sp sc t v : ℕ) : Type 0 where
+  pub b : ℕ
+  pub e : ℕ
+  pub begun : ExactlyFirst (λ k. sp + k * tp ≤ t) b
+  pub ended : ExactlyFirst (λ k. sc + (k + 1) * tc ≤ t) e
+  pub claimed : x + sum rp b ≡ sum rc e + v
+
 pub at-most : {a b : ℕ} → (b < a → ⊥) → a ≤ b
 at-most h = omega (arith, h)
 
@@ -33,10 +50,6 @@ ended-some start period by pos = go (decLt (by .0) (start .0))
     go (yes h) = (_, ended-before start period by h)
     go (no h) = (_, ended-since start period by (omega (arith, h)) pos)
 
--- what a pair comes to: more, less what is fewer, and less a unit besides where the rest is short
-abbrev pub beyond : ℕ → ℕ → ℕ → ℕ → ℕ → ℕ
-beyond rest rest′ more fewer unit = more - cond (leb rest rest′) fewer (fewer + unit)
-
 -- a pair of quotients, each taken by itself, is the quotient of the difference
 pub beyond-quotient : (x y g G m l : ℕ) → 0 < g → y ≤ x
     → beyond (y % g) (x % g) (m + x / g * G) (y / g * G + l) G ≡ m + (x - y) / g * G - l
@@ -46,19 +59,6 @@ beyond-quotient x y g G m l pos h = go (leb (y % g) (x % g)) (div-difference x y
         → m + x / g * G - cond b (y / g * G + l) (y / g * G + l + G) ≡ m + (x - y) / g * G - l
     go true e = omega (arith, ap (λ (z : ℕ). z * G) e)
     go false e = omega (arith, ap (λ (z : ℕ). z * G) e)
-
--- The producer makes rp i in firing i, with period tp from sp on; the consumer takes rc i, with period tc from sc on; x tokens are there at the start.
--- No firing takes a token not yet there:
-abbrev pub FedBy : (ℕ → ℕ) → (ℕ → ℕ) → ℕ → ℕ → ℕ → ℕ → ℕ → Type 0
-FedBy rp rc tp tc x sp sc = (n : ℕ) → 0 < rc n → (e : ℕ) → ExactlyFirst (λ k. sp + (k + 1) * tp ≤ sc + n * tc) e → sum rc (n + 1) ≤ x + sum rp e
-
--- v places are claimed at tick t:
-pub record ClaimedBy (rp rc : ℕ → ℕ) (tp tc x sp sc t v : ℕ) : Type 0 where
-  pub b : ℕ
-  pub e : ℕ
-  pub begun : ExactlyFirst (λ k. sp + k * tp ≤ t) b
-  pub ended : ExactlyFirst (λ k. sc + (k + 1) * tc ≤ t) e
-  pub claimed : x + sum rp b ≡ sum rc e + v
 
 -- The rates repeat after np and nc firings, and K cycles of the producer are added where a difference is taken.
 module _ (rp rc : ℕ → ℕ) (np tp tc x K sp g G : ℕ) where

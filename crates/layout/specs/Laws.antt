@@ -23,6 +23,11 @@ use Rattle.layout.specs.Joined.{joined, stretch, part, length-joined, pa
 use Rattle.layout.specs.Words.{CHANGES, HEAD-WORDS, ACTOR-WORDS, CHANNEL-WORDS, MODE-WORDS, CHANGE-WORDS, WORDS, headWords, rateWords, channelWords, actorWordsAt, channelWordsAt, modeWords, modeWordsAt, changeWordsAt, modesWords, changesWords, wordsOf}
 use Rattle.layout.specs.Read.{actorOf, ratesOf, channelOf, actorsOf, channelsOf, modeOf, graphOf}
 
+-- rates in their range, one for each phase there can be
+pub record Small (rates : List ℕ) : Type 0 where
+  pub long : length rates ≡ PHASES
+  pub small : (k : ℕ) → getD rates k 0 ≤ MOST-RATE .0
+
 -- each block has its number of words
 pub length-channel : (c : Channel) (size tokens : Token) → length (channelWords c size tokens) ≡ CHANNEL-WORDS
 unfolding tab
@@ -60,11 +65,6 @@ length-words t w = length-append (modesWords t w) (changesWords w) ∙ ap₂ _+_
 -- what stands between p and t
 stretch-at : (p q t : List ℕ) (a k : ℕ) → length p ≡ a → length q ≡ k → stretch a k (p ++ (q ++ t)) ≡ q
 stretch-at p q t a k e h = ap (take k) (drop-at p (q ++ t) a e) ∙ take-at q t k h
-
--- rates in their range, one for each phase there can be
-pub record Small (rates : List ℕ) : Type 0 where
-  pub long : length rates ≡ PHASES
-  pub small : (k : ℕ) → getD rates k 0 ≤ MOST-RATE .0
 
 rates-back : (rates : List ℕ) → Small rates → ratesOf (rateWords rates) ≡ rates
 rates-back rates s =

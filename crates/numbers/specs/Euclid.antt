@@ -6,6 +6,10 @@ use native.Mathlib.Nat.{mul-comm, zero-mul, mod-lt, le-of-suc-le-suc, not-suc-le
 use native.Mathlib.Omega.{arith}
 use Rattle.numbers.specs.Common.{IsGcd}
 
+-- u times a is v times b, and g more
+abbrev pub Ahead : ℕ → ℕ → ℕ → Type 0
+Ahead a b g = (u : ℕ) × (v : ℕ) × (u * a ≡ v * b + g)
+
 pub gcd-unique : {a b g h : ℕ} → IsGcd a b g → IsGcd a b h → g ≡ h
 gcd-unique {g = g} {h = h} p q = dvd-antisymm (q .greatest g (p .left) (p .right)) (p .greatest h (q .left) (q .right))
 
@@ -35,10 +39,6 @@ gcd-lt {a} {b} {g} m p ha hb = go a b p ha hb
     go zero zero p ha hb = lt-of-le-of-lt (le-of-eq (dvd-antisymm (dvd-zero g) (p .greatest 0 (dvd-refl 0) (dvd-refl 0)))) ha
     go zero (suc b) p ha hb = lt-of-le-of-lt (le-of-dvd (zero-lt-suc b) (p .right)) hb
     go (suc a) b p ha hb = lt-of-le-of-lt (le-of-dvd (zero-lt-suc a) (p .left)) ha
-
--- u times a is v times b, and g more
-abbrev pub Ahead : ℕ → ℕ → ℕ → Type 0
-Ahead a b g = (u : ℕ) × (v : ℕ) × (u * a ≡ v * b + g)
 
 -- the greatest common divisor, and Bézout's numbers for it where a is not 0
 abbrev Found : ℕ → ℕ → Type 0

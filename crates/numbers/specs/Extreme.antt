@@ -21,16 +21,16 @@ pub record Greatest (P : ℕ → Type 0) (n : ℕ) : Type 0 where
 abbrev pub ExactlyFirst : (ℕ → Type 0) → ℕ → Type 0
 ExactlyFirst P n = (k : ℕ) → (k < n) ↔ P k
 
+-- the greatest of the first n values of a function; 0 where there is none
+unfoldable pub mostOf : (ℕ → ℕ) → ℕ → ℕ
+mostOf f zero = 0
+mostOf f (suc n) = max (mostOf f n) (f n)
+
 pub least-unique : (P : ℕ → Type 0) {n m : ℕ} → Least P n → Least P m → n ≡ m
 least-unique P {n} {m} p q = le-antisymm (p .least m (q .holds)) (q .least n (p .holds))
 
 pub greatest-unique : (P : ℕ → Type 0) {n m : ℕ} → Greatest P n → Greatest P m → n ≡ m
 greatest-unique P {n} {m} p q = le-antisymm (q .greatest n (p .holds)) (p .greatest m (q .holds))
-
--- the greatest of the first n values of a function; 0 where there is none
-unfoldable pub mostOf : (ℕ → ℕ) → ℕ → ℕ
-mostOf f zero = 0
-mostOf f (suc n) = max (mostOf f n) (f n)
 
 module _ (f : ℕ → ℕ) where
   -- one value more, as a loop counts

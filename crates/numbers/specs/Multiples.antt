@@ -9,6 +9,11 @@ use Rattle.numbers.specs.declared.common.Multiple.the-variants.{Is, Abov
 use Rattle.numbers.specs.Common.{IsGcd, IsLcm, IsLcmWithin}
 use Rattle.numbers.specs.Euclid.{gcd-comm, gcd-exists, gcd-pos, euclid}
 
+-- l is the least common multiple of the numbers q i, for each i below n that has the property P
+pub record LcmOfAll (P : ℕ → Type 0) (q : ℕ → ℕ) (n l : ℕ) : Type 0 where
+  pub each : (i : ℕ) → (i < n) × P i → q i ∣ l
+  pub least : (m : ℕ) → ((i : ℕ) → (i < n) × P i → q i ∣ m) → l ∣ m
+
 pub lcm-unique : {a b l m : ℕ} → IsLcm a b l → IsLcm a b m → l ≡ m
 lcm-unique {l = l} {m = m} p q = dvd-antisymm (p .least m (q .left) (q .right)) (q .least l (p .left) (p .right))
 
@@ -37,11 +42,6 @@ lcm-of-gcd {a} {b} {g} pos p =
 -- of numbers above 0 it is above 0
 pub lcm-pos : {a b l : ℕ} → zero < a → zero < b → IsLcm a b l → zero < l
 lcm-pos {a} {b} pa pb p = pos-of-dvd-of-pos (p .least (a * b) (dvd-mul-right a b) (dvd-mul-left b a)) (mul-pos pa pb)
-
--- l is the least common multiple of the numbers q i, for each i below n that has the property P
-pub record LcmOfAll (P : ℕ → Type 0) (q : ℕ → ℕ) (n l : ℕ) : Type 0 where
-  pub each : (i : ℕ) → (i < n) × P i → q i ∣ l
-  pub least : (m : ℕ) → ((i : ℕ) → (i < n) × P i → q i ∣ m) → l ∣ m
 
 module _ (P : ℕ → Type 0) (q : ℕ → ℕ) where
   pub lcm-none : LcmOfAll P q 0 1
