@@ -79,10 +79,10 @@ pub by-no-request : {s : List ℕ} {x : Request} → x ≡ noRequest → Request
 by-no-request e p = rw e p
 
 -- a number of 64 bits, and none
-number-good : (s : List ℕ) {x : Number} {n : ℕ} → NumberOf s 0 TOP x → x ≡ Is n → (s ≡ decimal n) × (n < 2 ^ 64)
+pub number-good : (s : List ℕ) {x : Number} {n : ℕ} → NumberOf s 0 TOP x → x ≡ Is n → (s ≡ decimal n) × (n < 2 ^ 64)
 number-good s p e = let g = subst (λ (y : Number). NumberOf s 0 TOP y) e p in (sym (decimal-is (g .1)), omega (arith, g .0 .1))
 
-number-bad : (s : List ℕ) {x : Number} → NumberOf s 0 TOP x → x ≡ Bad → (n : ℕ) → s ≡ decimal n → n < 2 ^ 64 → ⊥
+pub number-bad : (s : List ℕ) {x : Number} → NumberOf s 0 TOP x → x ≡ Bad → (n : ℕ) → s ≡ decimal n → n < 2 ^ 64 → ⊥
 number-bad s p e n f l = subst (λ (y : Number). NumberOf s 0 TOP y) e p n (omega arith, omega arith) (rw f (decimal-writes n))
 
 -- what is read of a request, by its parts

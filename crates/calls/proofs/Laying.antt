@@ -38,20 +38,20 @@ unfolding lineText lineOf
 printed-line p = refl
 
 -- the first i numbers of a line, from a place on
-pub record Begun (ns before : List ℕ) (at i : ℕ) (after : List ℕ) (end : ℕ) : Type 0 where
+pub record FieldsLaid (ns before : List ℕ) (at i : ℕ) (after : List ℕ) (end : ℕ) : Type 0 where
   pub laid : Laid before at (fieldsText (take i ns)) after end
   pub short : end ≤ at + 21 * i
 
-pub begun-none : (ns before : List ℕ) (at : ℕ) → Begun ns before at 0 before at
+pub begun-none : (ns before : List ℕ) (at : ℕ) → FieldsLaid ns before at 0 before at
 begun-none ns before at = record { laid = laid-none before at; short = omega arith }
 
 module _ {ns before after : List ℕ} {at i end : ℕ} where
   -- room for the next number, and that number
-  pub number-room : (n : ℕ) → n < 2 ^ 64 → i < 5 → at + 107 ≤ length before → Begun ns before at i after end → Room after end (44 ∷ decimal n)
+  pub number-room : (n : ℕ) → n < 2 ^ 64 → i < 5 → at + 107 ≤ length before → FieldsLaid ns before at i after end → Room after end (44 ∷ decimal n)
   number-room n h l room b = record { fits = omega (arith, room, b .short, laid-length (b .laid), digits-most 19 n (omega arith)) }
 
-  pub begun-next : {k : List ℕ} {stop : ℕ} → i < length ns → getD ns i 0 < 2 ^ 64 → Begun ns before at i after end
-      → Laid after end (44 ∷ decimal (getD ns i 0)) k stop → Begun ns before at (i + 1) k stop
+  pub begun-next : {k : List ℕ} {stop : ℕ} → i < length ns → getD ns i 0 < 2 ^ 64 → FieldsLaid ns before at i after end
+      → Laid after end (44 ∷ decimal (getD ns i 0)) k stop → FieldsLaid ns before at (i + 1) k stop
   begun-next l h b a =
       let e : fieldsText (take (i + 1) ns) ≡ fieldsText (take i ns) ++ (44 ∷ decimal (getD ns i 0))
       = ap (λ (k : ℕ). fieldsText (take k ns)) (add-one i) ∙ ap fieldsText (take-suc ns i 0 l)
@@ -61,11 +61,11 @@ module _ {ns before after : List ℕ} {at i end : ℕ} where
         short = omega (arith, b .short, a .ends, digits-most 19 (getD ns i 0) (omega (arith, h)));
       }
 
-  pub end-room : i ≤ 5 → at + 107 ≤ length before → Begun ns before at i after end → Room after end (13 ∷ 10 ∷ [])
+  pub end-room : i ≤ 5 → at + 107 ≤ length before → FieldsLaid ns before at i after end → Room after end (13 ∷ 10 ∷ [])
   end-room l room b = record { fits = omega (arith, room, b .short, laid-length (b .laid)) }
 
   -- a word, all numbers and the end of the line
-  pub line-ends : {text l k : List ℕ} {from stop : ℕ} → length text ≤ 8 → Laid l from text before at → i ≤ 5 → length ns ≤ i → Begun ns before at i after end
+  pub line-ends : {text l k : List ℕ} {from stop : ℕ} → length text ≤ 8 → Laid l from text before at → i ≤ 5 → length ns ≤ i → FieldsLaid ns before at i after end
       → Laid after end (13 ∷ 10 ∷ []) k stop → LaysLine (lineOf text ns) l from k stop
   unfolding lineOf
   line-ends {text} t w l h b a =

@@ -11,7 +11,7 @@ use Rattle.csv.specs.declared.decimal.Number.{Number}
 use Rattle.csv.specs.declared.decimal.Number.the-variants.{Is, Bad}
 use Rattle.csv.specs.Numbers.{NumberOf}
 use Rattle.csv.specs.Laid.{Laid}
-use Rattle.csv.proofs.Decimals.{number-one, writes-some}
+use Rattle.csv.proofs.Decimals.{decimal-writes, writes-some, decimal-injective}
 use Rattle.csv.proofs.Laying.{laid-one}
 use Rattle.layout.specs.Words.{WORDS}
 use Rattle.printer.specs.Printed.{PRINTED, planText, refusalText}
@@ -28,7 +28,7 @@ use Rattle.machine.specs.declared.Beginning.the-variants.{Begun, Refused as Not
 use Rattle.machine.specs.declared.Answer as Asked
 use Rattle.machine.proofs.Unique.{begins-unique, answers-unique}
 use Rattle.arguments.specs.Argument.{argumentsOf, firstOf, FirstBad}
-use Rattle.arguments.proofs.Reading.{request-unique}
+use Rattle.arguments.proofs.Reading.{TOP, request-unique, number-good, number-bad}
 use Rattle.arguments.proofs.Parting.{argument-then, bad-unique}
 use Rattle.calls.specs.Prints.{PlanPrints, lineOf, machineText, answerText, Lines, SessionPrints, ModeOf, AskPrints}
 use Rattle.calls.specs.Fills.{PlanFills, AskFills}
@@ -53,21 +53,21 @@ module _ (text args : List ℕ) (end : ℕ) (e : end ≡ 0 + length (firstOf (ar
       let z : end - 0 ≡ end = omega arith in
       argument-then args 0 end e l ∙ ap (λ (k : ℕ). take k args ∷ argumentsOf (drop (end + 1) args)) z
 
-  pub bad-mode : {x : Number} → NumberOf (take end args) 0 18446744073709551615 x → x ≡ Bad → AskPrints text (argumentsOf args) (lineOf (bytes "argument") (1 ∷ []))
+  pub bad-mode : {x : Number} → NumberOf (take end args) 0 TOP x → x ≡ Bad → AskPrints text (argumentsOf args) (lineOf (bytes "argument") (1 ∷ []))
   bad-mode {x} p g = go args refl
     where
       go : (s : List ℕ) → args ≡ s → AskPrints text (argumentsOf args) (lineOf (bytes "argument") (1 ∷ []))
       go [] f = rw (f, none-there) AskPrints.no-argument
       go (b ∷ s) f =
           rw (parts (omega (arith, ap length f)))
-          (AskPrints.no-mode (subst (NumberOf (take end args) 0 18446744073709551615) g p))
+          (AskPrints.no-mode (number-bad (take end args) p g))
 
-  module _ {x : Number} {mode : ℕ} (p : NumberOf (take end args) 0 18446744073709551615 x) (g : x ≡ Is mode) where
+  module _ {x : Number} {mode : ℕ} (p : NumberOf (take end args) 0 TOP x) (g : x ≡ Is mode) where
     first-mode : ModeOf (take end args) mode
-    first-mode = subst (NumberOf (take end args) 0 18446744073709551615) g p
+    first-mode = number-good (take end args) p g
 
     first-then : argumentsOf args ≡ take end args ∷ argumentsOf (drop (end + 1) args)
-    first-then = parts (omega (arith, writes-some (first-mode .1), length-take end args))
+    first-then = parts (omega (arith, writes-some (decimal-writes mode), ap length (first-mode .0), length-take end args))
 
     pub bad-request : (n : ℕ) → FirstBad 1 (argumentsOf (drop (end + 1) args)) n → (n ≡ 0 → ⊥) → AskPrints text (argumentsOf args) (lineOf (bytes "argument") ((n + 1) ∷ []))
     bad-request zero f h = absurd (h refl)
@@ -131,7 +131,7 @@ session-unique (SessionPrints.not-begun p) (SessionPrints.begun q k) = absurd (b
 session-unique (SessionPrints.not-begun {r} p) (SessionPrints.not-begun q) = ap (λ (b : Beginning). refusalText (notBegun r b)) (begins-unique p q)
 
 mode-same : {a : List ℕ} {m n : ℕ} → ModeOf a m → ModeOf a n → m ≡ n
-mode-same p q = number-one (p .1) (q .1)
+mode-same {m = m} {n} p q = decimal-injective m n (sym (p .0) ∙ q .0)
 
 pub ask-unique : {text : List ℕ} {s : List (List ℕ)} {x y : List ℕ} → AskPrints text s x → AskPrints text s y → x ≡ y
 ask-unique AskPrints.no-argument AskPrints.no-argument = refl

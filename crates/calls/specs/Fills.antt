@@ -13,7 +13,7 @@ use Rattle.machine.specs.declared.Answer.{Answer}
 use Rattle.machine.specs.Answers.{Answers}
 use Rattle.arguments.specs.declared.Request.{Request}
 use Rattle.arguments.specs.Argument.{argumentsOf}
-use Rattle.calls.specs.declared.session.Told.{Told}
+use Rattle.calls.specs.declared.session.Reached.{Reached}
 use Rattle.calls.specs.Prints.{PlanPrints, AskPrints, answerText}
 
 -- the most bytes of a line: its word, five commas and numbers of 64 bits, and CRLF
@@ -30,11 +30,11 @@ pub record LaysLine (text before : List ℕ) (at : ℕ) (after : List ℕ) (end 
   pub short : end ≤ at + LINE
 
 -- the answer to a request, laid over a buffer from a place on, and the machine after it
-pub record LaysAnswer (words : List ℕ) (m : Machine) (r : Request) (before : List ℕ) (at : ℕ) (after : List ℕ) (told : Told) : Type 0 where
+pub record LaysAnswer (words : List ℕ) (m : Machine) (r : Request) (before : List ℕ) (at : ℕ) (after : List ℕ) (reached : Reached) : Type 0 where
   pub answer : Answer
   pub answers : Answers words m (r .mode) (r .clock) answer
-  pub machine : told .machine ≡ answer .machine
-  pub line : LaysLine (answerText (answer .reply) (answer .machine)) before at after (told .end)
+  pub machine : reached .machine ≡ answer .machine
+  pub line : LaysLine (answerText (answer .reply) (answer .machine)) before at after (reached .end)
 
 -- a text that meets a rule, laid over a buffer from a place on
 pub record Lays (Rule : List ℕ → Type 0) (before : List ℕ) (at : ℕ) (after : List ℕ) (end : ℕ) : Type 0 where

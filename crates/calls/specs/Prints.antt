@@ -1,14 +1,13 @@
 -- What the programs `plan` and `ask` print.
+use mathlib.Core.Path.{_≡_}
 use mathlib.Core.List.{List, [], _∷_, _++_, map}
-use Prim.Native.Nat.{ℕ, suc}
+use Prim.Native.Nat.{ℕ, suc, _^_, _<_}
 use lib.ListN.{replicate}
 use Rattle.units.specs.declared.Tick.{Tick}
 use Rattle.terms.specs.Text.{bytes}
 use Rattle.terms.specs.declared.refusal.Refusal.{Refusal}
 use Rattle.tables.specs.declared.Table.{Table}
-use Rattle.csv.specs.declared.decimal.Number.the-variants.{Is, Bad}
 use Rattle.csv.specs.Decimal.{decimal}
-use Rattle.csv.specs.Numbers.{NumberOf}
 use Rattle.csv.specs.Writing.{joined}
 use Rattle.planning.specs.declared.Plan.{Plan}
 use Rattle.layout.specs.Words.{WORDS}
@@ -46,7 +45,7 @@ abbrev pub answerText : Reply → Machine → List ℕ
 answerText (Granted delay) m = acceptedText delay m
 answerText (Denied r) m = refusalText r
 
--- the answers to some requests, one behind the other, each request asked of the machine that the answer before it leaves
+-- the answers to some arguments that are requests, one behind the other, each request asked of the machine that the answer before it leaves
 pub data Lines (words : List ℕ) : Machine → List (List ℕ) → List ℕ → Type 0 where
   none : {m : Machine} → Lines words m [] []
   next : {m : Machine} {argument : List ℕ} {rest : List (List ℕ)} {r : Request} {a : Answer} {lines : List ℕ} → RequestOf argument r
@@ -57,12 +56,12 @@ pub data SessionPrints (words : List ℕ) (mode : ℕ) (requests : List (List �
   begun : {m : Machine} {lines : List ℕ} → Begins words mode (Begun m) → Lines words m requests lines → SessionPrints words mode requests (machineText m ++ lines)
   not-begun : {r : Refusal} → Begins words mode (NotBegun r) → SessionPrints words mode requests (refusalText r)
 
--- the numbers of 64 bits that the first argument can be
+-- an argument is a mode where it is a number below 2^64
 abbrev pub ModeOf : List ℕ → ℕ → Type 0
-ModeOf argument mode = NumberOf argument 0 18446744073709551615 (Is mode)
+ModeOf argument mode = (argument ≡ decimal mode) × (mode < 2 ^ 64)
 
 abbrev pub NoMode : List ℕ → Type 0
-NoMode argument = NumberOf argument 0 18446744073709551615 Bad
+NoMode argument = (mode : ℕ) → argument ≡ decimal mode → mode < 2 ^ 64 → ⊥
 
 -- `ask`, for the text on its input and its arguments, of which the first is the starting mode and each further one a request: the number of the first argument that is
 -- not of its form; or the refusal of the text; or what the machine on its plan answers

@@ -15,7 +15,7 @@ ghost use Rattle.calls.specs.Prints.{answerText, Lines, SessionPrints};
 ghost use Rattle.calls.specs.Fills.{LINE as LINE-LIMIT, Enough, Lays, LaysLine, LaysAnswer};
 
 // A machine, and the place behind the lines of its answers.
-pub(crate) struct Told {
+pub(crate) struct Reached {
     pub machine: Machine,
     pub end: usize,
 }
@@ -32,7 +32,7 @@ fn reply_line(out: &mut [u8], at: usize, reply: Reply, after: Machine) -> usize
 }
 
 // The line of the answer to a request, and the machine after it.
-fn answered(out: &mut [u8], at: usize, words: &[u64], machine: Machine, request: Request) -> Told
+fn answered(out: &mut [u8], at: usize, words: &[u64], machine: Machine, request: Request) -> Reached
     requires { ⌜ at + LINE-LIMIT ≤ length (now out) ⌝ }
     ensures { λ r. ⌜ LaysAnswer (now (words .entry)) machine request (now (out .entry)) at (now (out .exit)) r ⌝ }
 {
@@ -41,7 +41,7 @@ fn answered(out: &mut [u8], at: usize, words: &[u64], machine: Machine, request:
     let reply = answer.reply;
     let after = answer.machine;
     let end = reply_line(out, at, reply, after);
-    Told {
+    Reached {
         machine: after,
         end,
     }
@@ -59,7 +59,7 @@ fn answers(
     requires { ⌜ Enough (now arguments) (now out) × (at + LINE-LIMIT * (length (now arguments) - from) ≤ length (now out)) ⌝ }
     ensures { λ r. ⌜ Lays (Lines (now (words .entry)) first (argumentsOf (drop from (now (arguments .entry))))) (now (out .entry)) at (now (out .exit)) r ⌝ }
 {
-    let mut told = Told {
+    let mut reached = Reached {
         machine: first,
         end: at,
     };
@@ -67,10 +67,10 @@ fn answers(
     while place < arguments.len() {
         let end = end_of(arguments, place);
         let request = request_of(&arguments[place..end]);
-        told = answered(out, told.end, words, told.machine, request);
+        reached = answered(out, reached.end, words, reached.machine, request);
         place = end + 1;
     }
-    told.end
+    reached.end
 }
 
 // The lines of a machine that begins in a mode, and of its answers.

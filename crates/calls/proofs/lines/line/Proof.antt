@@ -3,12 +3,12 @@ use Prim.Native.Nat.{_+_, _-_, _≤_}
 use native.Mathlib.Omega.{arith}
 use lib.ListN.{length}
 use Rattle.csv.proofs.Laying.{laid-length}
-use Rattle.calls.proofs.Laying.{Begun, begun-none, number-room, begun-next, end-room, line-ends}
+use Rattle.calls.proofs.Laying.{FieldsLaid, begun-none, number-room, begun-next, end-room, line-ends}
 use Rattle.calls.proofs.lines.line.Statement.{statement}
 use Rattle.calls.proofs.lines.line.Tie as tie
 
 abbrev Inv-loop : tie.InvT-loop
-Inv-loop out₀ at text numbers end₀ i₀ out end i = (i ≤ length numbers) × Begun numbers out₀ end₀ i out end
+Inv-loop out₀ at text numbers end₀ i₀ out end i = (i ≤ length numbers) × FieldsLaid numbers out₀ end₀ i out end
 
 abbrev μ-loop : tie.MeasureT-loop
 μ-loop out₀ at text numbers end₀ i₀ out end i = length numbers - i

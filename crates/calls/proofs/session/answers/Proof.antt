@@ -11,10 +11,10 @@ use Rattle.calls.proofs.session.answers.Statement.{statement}
 use Rattle.calls.proofs.session.answers.Tie as tie
 
 abbrev Inv-loop : tie.InvT-loop
-Inv-loop out₀ at words arguments from told₀ place₀ out told place = Sofar words arguments (told₀ .machine) out₀ at from out told place
+Inv-loop out₀ at words arguments from reached₀ place₀ out reached place = Sofar words arguments (reached₀ .machine) out₀ at from out reached place
 
 abbrev μ-loop : tie.MeasureT-loop
-μ-loop out₀ at words arguments from told₀ place₀ out told place = length arguments - place
+μ-loop out₀ at words arguments from reached₀ place₀ out reached place = length arguments - place
 
 within : (c : tie.After-end-of Inv-loop μ-loop) → c .end-of .result ≤ length (now (c .before .before .before .before .before .before .args .arguments))
 within c = end-within (now (c .before .before .before .before .before .before .args .arguments)) _ _ (c .end-of .ensures) (c .before .loop-test .taken)
