@@ -41,5 +41,5 @@ PY
     $run < "$table" 2> err >&-;            told "$name, a closed output"
 done
 # shellcheck disable=SC2046
-$ask 2 $(yes 1@21 | head -n 3000) < "$table" > out 2> err; told 'ask, more arguments than it takes'
+$ask 2 $(yes 1@21 | head -n 9000) < "$table" > out 2> err; told 'ask, more arguments than it takes'
 exit $failed

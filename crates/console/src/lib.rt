@@ -7,7 +7,7 @@ use printer::PRINTED;
 ghost use Rattle.io.specs.Counts.{Counts};
 
 // The most bytes of the arguments of a call, each with its 0.
-const MOST_ARGUMENTS: usize = 8192;
+const MOST_ARGUMENTS: usize = 32768;
 
 // Whether all was read, and how many bytes stand in the buffer.
 pub struct Input {

@@ -11,7 +11,7 @@ pub answer-spec : {M : Type 1} → statement M
 answer-spec =
     tie.close
     (tie.spec
-    (λ c. sym (length-replicate {A = ℕ} (LINE * (8192 + 1)) 0))
+    (λ c. sym (length-replicate {A = ℕ} (LINE * (32768 + 1)) 0))
     (λ c κs. tt)
     (λ c. c .match .keys1)
     (λ c. c .match .keys2)
