@@ -31,19 +31,27 @@ use Rattle.run.specs.Plan.{RunPlan}
 use Rattle.run.specs.Machine as Run
 use Rattle.machine.specs.Plan.{isListed, planOf}
 use Rattle.layout.specs.Words.{WORDS, wordsOf}
+use Rattle.printer.specs.Printed.{PRINTED, planText, Shows}
 use Rattle.planner.specs.declared.Answer.{Answer as TableAnswer}
 use Rattle.planner.specs.declared.Answer.the-variants as Table′
-use Rattle.planner.specs.Plans.{Plans, Reads}
+use Rattle.planner.specs.declared.Printing.{Printing}
+use Rattle.planner.specs.declared.Printing.the-variants as Print′
+use Rattle.planner.specs.Plans.{Plans, Prints, Reads, Leaves, Stored, noPlan}
 use Rattle.planner.specs.Numbers.{planNumbers}
-use Rattle.planner.proofs.Answering.{told-refused, plans-unique}
+use Rattle.planner.proofs.Answering.{told-refused, plans-unique, prints-unique}
+use Rattle.planner.proofs.Leaving.{leaves-stored}
 use Rattle.machine.specs.declared.Machine.{Machine}
 use Rattle.machine.specs.declared.Beginning.{Beginning}
+use Rattle.machine.specs.declared.Beginning.the-variants as Start′
+use Rattle.machine.specs.declared.Reply.the-variants as Request′
 use Rattle.machine.specs.declared.Answer.{Answer}
 use Rattle.machine.specs.Answers.{seen, asking, machine, Meant, Begins, refusing, Answers}
 use Rattle.machine.proofs.Unique.{begins-unique, answers-unique}
 use Rattle.machine.proofs.Steps.{listed-zero}
 use Rattle.machine.proofs.Demand as Machine′
-use Rattle.demands.specs.Demands.{OnTable, OnStart, OnRequest, Demand1, TableRefused, Demand2, Demand3}
+use Rattle.stellarsnare.specs.Face.{threeOf, machineOf, PlanTold, StartTold, RequestTold, PrintTold}
+use Rattle.demands.specs.Demands.{OnTable, OnStart, OnRequest, Demand1, TableRefused, TablesRight, MachinesRight, Demand2, Granted, Delays, Demand3, Says, InC}
+use Rattle.demands.proofs.Printing.{lines}
 
 -- the numbers of the refusals of rows, and of modes
 abbrev OfRow : Rows → Type 0
@@ -146,11 +154,11 @@ demand-1 =
     }
 
 left-planned : {text before words : List ℕ} {a : TableAnswer} → Plans text before a words → a ≡ Table′.Accepted
-    → (t : Table) × (w : Plan) × Reads text t × (words ≡ wordsOf t w) × Planned t w
+    → (t : Table) × (w : Plan) × Reads text t × Planned t w × (words ≡ wordsOf t w)
 left-planned (Plans.wrong-length n) e = let z : _≡_ {A = ℕ} 0 1 = cc in absurd (omega arith)
 left-planned (Plans.not-read l r) e = let z : _≡_ {A = ℕ} 0 1 = cc in absurd (omega arith)
 left-planned (Plans.not-planned l r p) e = let z : _≡_ {A = ℕ} 0 1 = cc in absurd (omega arith)
-left-planned (Plans.accepted {t} {w} l r p) e = (t, w, r, refl, p)
+left-planned (Plans.accepted {t} {w} l r p) e = (t, w, r, p, refl)
 
 refuses : {text before : List ℕ} {r : Refusal} → length before ≡ WORDS → TableRefused text r → Plans text before (Table′.Refused r) before
 refuses l (TableRefused.at-row told) = Plans.not-read l told
@@ -187,8 +195,8 @@ modes-numbers l reads (Planning.refused listed lower refused) plans =
     ap planNumbers (plans-unique plans (Plans.not-planned l reads (Planning.refused listed lower refused)) .0)
 modes-numbers l reads (Planning.planned p) plans = ap planNumbers (plans-unique plans (Plans.accepted l reads p) .0)
 
-pub demand-2 : Demand2
-demand-2 =
+tables : TablesRight
+tables =
     record {
       right = λ p. left-planned p refl;
       accepted = Plans.accepted;
@@ -198,6 +206,23 @@ demand-2 =
       answered = answered;
       text-numbers = text-numbers;
       modes-numbers = modes-numbers;
+    }
+
+printed : {t : Table} {w : Plan} {words before after : List ℕ} {x : Printing} → Leaves t w words → length before ≡ PRINTED → Prints words before x after
+    → (n : ℕ) × (x ≡ Print′.Printed n) × Shows (planText t w) after n
+printed {t} {w} l long p =
+    let (e, f) = prints-unique p (Prints.printed long l (record { long = refl; is = refl })) in
+    (length (planText t w), e, record { long = refl; is = f })
+
+print-15 : {words before after : List ℕ} {x : Printing} → (length before ≡ PRINTED → Stored words → ⊥) → Prints words before x after
+    → (x ≡ Print′.Refused noPlan) × (after ≡ before)
+print-15 n (Prints.no-room h) = (refl, refl)
+print-15 n (Prints.not-stored h k) = (refl, refl)
+print-15 n (Prints.printed h l s) = absurd (n h (leaves-stored l))
+
+machines : MachinesRight
+machines =
+    record {
       start-15 = λ n b. begins-unique b (Begins.not-stored n);
       start-11 = λ l m n b. begins-unique b (Begins.not-listed l m n);
       start-begun = λ l m h b. begins-unique b (Begins.begun l m h);
@@ -206,22 +231,56 @@ demand-2 =
       request-accepted = λ l e a. answers-unique a (Answers.accepted l e);
     }
 
+pub demand-2 : Demand2
+demand-2 = record { tables = tables; printing = record { printed = printed; lines = lines; print-15 = print-15 }; machines = machines }
+
 -- the mode with a number that is listed
 meant : (t : Table) (k : ℕ) → T (isListed t k) → Meant t k k
 meant t k h = record { lowest = λ e. absurd (subst T (listed-zero t k e) h); named = λ n. refl }
 
+delays : {t : Table} {w : Plan} {words : List ℕ} → Leaves t w words → Delays t w words
+delays {t} {w} {words} l =
+    record {
+      delayed = λ mode clock a. Machine′.delayed l mode clock a refl;
+      never-above = λ mode clock a. Machine′.never-above l mode clock a refl;
+      reached = λ o n ho hn other.
+          let (clock, a, answers, told) = Machine′.reached l o n ho hn other in
+          let m = machine (Run.begin (planOf t w) o .now) in (
+            m,
+            a .machine,
+            clock,
+            Begins.begun l (meant t o ho) ho,
+            subst (Answers words m n clock) (λ i. record { reply = told i; machine = a .machine }) answers,
+          );
+      alone = λ mode clock time a b. Machine′.alone l mode clock time a refl b refl;
+    }
+
 pub demand-3 : Demand3
 demand-3 text before words p =
-    let (t, w, l, d) = Machine′.closed text before words p in (
-      t,
-      w,
-      l,
-      record {
-        holds = d;
-        machine-runs = Machine′.begun-run l;
-        never-above = Machine′.never-above l;
-        reached = λ o n ho hn other.
-            let (clock, a, answers, told) = Machine′.reached l o n ho hn other in
-            (machine (Run.begin (planOf t w) o .now), clock, a, Begins.begun l (meant t o ho) ho, answers, told);
-      },
-    )
+    let (t, w, r, q, e) = left-planned p refl in
+    let l : Leaves t w words = record { text = text; reads = r; planned = q; left = e } in
+    (t, w, r, q, e, record { right = Machine′.right l; orderly = Machine′.orderly l; machine-runs = Machine′.begun-run l }, delays l)
+
+told-plan : {text words after numbers : List ℕ} {ok : Bool} → PlanTold text words ok after numbers
+    → Says ok numbers (Plans text words Table′.Accepted after) (λ r. (after ≡ words) × Plans text words (Table′.Refused r) words)
+told-plan (PlanTold.accepted p) = inl (refl, refl, p)
+told-plan (PlanTold.refused p) = inr (refl, (_, refl, (refl, p)))
+
+told-print : {words out after numbers : List ℕ} {size n : ℕ} {ok : Bool} → PrintTold words out size ok after n numbers
+    → Says ok numbers (Prints words out (Print′.Printed n) after) (λ r. (after ≡ out) × (n ≡ size) × Prints words out (Print′.Refused r) out)
+told-print (PrintTold.accepted p) = inl (refl, refl, p)
+told-print (PrintTold.refused p) = inr (refl, (_, refl, (refl, refl, p)))
+
+told-start : {words three after numbers : List ℕ} {mode : ℕ} {ok : Bool} → StartTold words mode three ok after numbers
+    → Says ok numbers ((m : Machine) × (after ≡ threeOf m) × Begins words mode (Start′.Begun m)) (λ r. (after ≡ three) × Begins words mode (Start′.Refused r))
+told-start (StartTold.accepted p) = inl (refl, refl, (_, refl, p))
+told-start (StartTold.refused p) = inr (refl, (_, refl, (refl, p)))
+
+told-request : {words three after numbers : List ℕ} {mode clock delay d : ℕ} {ok : Bool} → RequestTold words three mode clock delay ok after d numbers
+    → Says ok numbers ((m : Machine) × (after ≡ threeOf m) × Granted words (machineOf three) mode (tick clock) (tick d) m)
+    (λ r. (after ≡ three) × (d ≡ delay) × Answers words (machineOf three) mode (tick clock) (record { reply = Request′.Refused r; machine = machineOf three }))
+told-request (RequestTold.accepted p) = inl (refl, refl, (_, refl, p))
+told-request (RequestTold.refused p) = inr (refl, (_, refl, (refl, refl, p)))
+
+pub in-c : InC
+in-c = record { plan = told-plan; print = told-print; start = told-start; request = told-request }

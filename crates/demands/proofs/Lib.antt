@@ -1,3 +1,4 @@
 -- The demands, proved.
 pub mod Functions
+mod Printing
 pub mod Demands

@@ -1,4 +1,4 @@
--- The plan of a table is sound, so demand 3 holds of it. Assumes nothing.
+-- The plan of a table is sound. Assumes nothing.
 use mathlib.Core.Path.{_≡_, refl, sym, ap, subst}
 use mathlib.Core.Bool.{Bool, true, false, not, cond, _&&_, and-true}
 use mathlib.Core.Logic.{_≢_}
@@ -27,8 +27,6 @@ use Rattle.planning.specs.Plan.{Listed, changeAt, timesOf, Planned}
 use Rattle.planning.proofs.Running.{listed-some, listed-none}
 use Rattle.run.specs.Plan.{Acts}
 use Rattle.run.specs.Machine.{worst}
-use Rattle.run.specs.Demand.{RightRuns}
-use Rattle.run.proofs.Demand.{demand-3}
 use Rattle.run.proofs.Sound.{Sound}
 use Rattle.machine.specs.Plan.{modeOf, partOf, isListed, planOf}
 use Rattle.machine.proofs.Running.{Runs, mode-runs}
@@ -142,6 +140,3 @@ module _ (t : Table) (w : Plan) (proper : ProperTable t) (planned : Planned t w)
           → AtMost (plus (askedOn (times o) q (λ i. ltb k (planOf t w .start o i))) (askedOn (times l) q (λ i. leb (planOf t w .offset o l + planOf t w .start l i) k))) LOAD-LIMIT
       together o l q k ho hl other d s (yes p) = changes o l ho hl other .offset .holds .2 k q d s (p .0) (p .1)
       together o l q k ho hl other d s (no n) = neither _ _ (nowhere (times o) (runs o ho .ready .actor) q n _) (nowhere (times l) (runs l hl .ready .actor) q n _)
-
-pub demand : {t : Table} {w : Plan} → ProperTable t → Planned t w → RightRuns (planOf t w)
-demand {t} {w} proper planned = demand-3 (planOf t w) (sound t w proper planned)

@@ -1,6 +1,5 @@
--- What else holds of every run. Assumes nothing.
+-- How the visits and firings of every run stand to each other. Assumes nothing.
 use Prim.Native.Nat.{ℕ, suc, _+_, _-_, _*_, _≤_, _<_, zero-le}
-use mathlib.Core.Path.{_≡_}
 use mathlib.Core.Bool.{Bool, true, false, _&&_, cond}
 use native.Mathlib.Nat.{le-trans, le-refl}
 use native.Mathlib.Omega.{arith}
@@ -9,40 +8,20 @@ use lib.Dec.{T, leb, leb→le, ltb→lt, lt→ltb}
 use lib.Ieee.Fits.{and-l, and-r}
 use Rattle.numbers.specs.Every.{Every}
 use Rattle.run.specs.Plan.{RunPlan, Acts}
-use Rattle.run.specs.Machine.{Machine, Request, refusal, leaving, Leave, stays, leaves, Visit, visit, visits, begin, run}
-use Rattle.run.specs.Firing.{begins, fires, underWay, isOpen, tally, total, openIn}
-use Rattle.run.specs.Demand.{EveryRun}
+use Rattle.run.specs.Machine.{Machine, leaving, Leave, stays, leaves, Visit, visit, visits, begin, run}
+use Rattle.run.specs.Firing.{underWay, isOpen, tally, total, busy}
+use Rattle.run.specs.Demand.{EveryRun, OrderlyRuns}
 use Rattle.run.proofs.Sound.{Sound}
 use Rattle.run.proofs.Tallies.{if-le, if-none}
 use Rattle.run.proofs.Delay.{leaving-is}
 use Rattle.run.proofs.Load.{works, work-le, works-open, under-open}
 use Rattle.run.proofs.Links.{Link, Good, linked, all-good, at-most, two-open, one-open}
 
--- how many firings of actor i of a visit are under way at tick t
-unfoldable pub busy : RunPlan → ℕ → ℕ → Visit → ℕ
-busy p i t v = cond (p .active (v .mode) i) (tally (underWay p v i t) (λ n. 1) (suc t)) 0
-
 module _ (p : RunPlan) (ok : Sound p) where
-  -- at any tick at most two visits are under way ..
-  pub two-visits : EveryRun p (λ s. (t : ℕ) → total (visits s) (λ v. cond (isOpen p t v) 1 0) ≤ 2)
-  two-visits m start rs t = two-open p t (linked p ok m start rs)
-
-  -- .. and only they load the tick
+  -- only visits that are under way have firings under way
   only-open : (t : ℕ) (vs : List Visit) → Every (Good p) vs → Every (λ v. (i n : ℕ) → Acts p (v .mode) i → T (underWay p v i t n) → T (isOpen p t v)) vs
   only-open t [] good = tt
   only-open t (v ∷ vs) ((l, w), good) = ((λ i n a u. under-open p ok (v .mode) (v .start) l (v .leave) w i n t a u), only-open t vs good)
-
-  pub none-elsewhere : EveryRun p (λ s. (t : ℕ) → Every (λ v. (i n : ℕ) → Acts p (v .mode) i → T (underWay p v i t n) → T (isOpen p t v)) (visits s))
-  none-elsewhere m start rs t = only-open t (visits (run p (begin p m) rs)) (all-good p (linked p ok m start rs))
-
-  -- visits of one mode never overlap
-  pub apart : EveryRun p (λ s. (k t : ℕ) → openIn p (visits s) k t ≤ 1)
-  apart m start rs k t = one-open p k t (linked p ok m start rs)
-
-  -- an accepted request cancels no firing that has begun before its tick
-  pub none-cancelled : (m : Machine) (r : Request) (i n : ℕ) → refusal p m r ≡ 0 → begins p (visit m stays) i n < r .tick
-      → T (fires p (visit m (leaves (leaving p m r))) i n)
-  none-cancelled m r i n h l = lt→ltb (n * p .period (m .mode) i) (leaving p m r - m .started) (omega (arith, leaving-is p ok m r h))
 
   -- an actor has one firing under way at a time, across visits
   module _ (i t : ℕ) (is-actor : i < p .actors) where
@@ -70,7 +49,7 @@ module _ (p : RunPlan) (ok : Sound p) where
         let both = ok .waits (b .mode) (c .mode) i hb (k .new) (k .other) (is-actor, and-l (p .active (b .mode) i) _ v) (is-actor, and-l (p .active (c .mode) i) _ u) in
         omega (arith, k .started)
 
-    pub one-firing : EveryRun p (λ s. total (visits s) (busy p i t) ≤ 1)
+    one-firing : EveryRun p (λ s. total (visits s) (busy p i t) ≤ 1)
     one-firing m start rs = at-most p t (Good p) (busy p i t) 1
         (λ v (l, w) h. omega (
           arith,
@@ -86,3 +65,12 @@ module _ (p : RunPlan) (ok : Sound p) where
           not-both (atWork (visit c l)) (atWork (visit b (leaves f))) (handed-over b c f l (old .0) k),
         ))
         (linked p ok m start rs) stays (all-good p (linked p ok m start rs))
+
+  pub orderly : OrderlyRuns p
+  orderly = record {
+    two-visits = λ m start rs t. two-open p t (linked p ok m start rs);
+    apart = λ m start rs k t. one-open p k t (linked p ok m start rs);
+    none-elsewhere = λ m start rs t. only-open t (visits (run p (begin p m) rs)) (all-good p (linked p ok m start rs));
+    one-firing = one-firing;
+    none-cancelled = λ m r i n h l. lt→ltb (n * p .period (m .mode) i) (leaving p m r - m .started) (omega (arith, leaving-is p ok m r h));
+  }

@@ -1,6 +1,6 @@
 -- The delay of an accepted request. Assumes nothing.
 use Prim.Native.Nat.{ℕ, zero, suc, _+_, _-_, _*_, _/_, _%_, _≤_, _<_}
-use mathlib.Core.Path.{_≡_, refl, sym, ap, _∙_}
+use mathlib.Core.Path.{_≡_, refl, sym, _∙_}
 use mathlib.Core.Logic.{_≢_}
 use mathlib.Core.Bool.{Bool, true, false, not, _||_, cond}
 use native.Mathlib.Nat.{div-add-mod, mod-lt, mod-self, mod-eq-of-lt, mul-add, sub-zero, zero-mul, lt-of-not-le, mul-le-mul-right}
@@ -12,10 +12,9 @@ use Rattle.numbers.specs.Extreme.{least-unique}
 use Rattle.numbers.specs.Quotient.{roundedOf, rounded-of}
 use Rattle.units.specs.Limits.{CLOCK-LIMIT}
 use Rattle.run.specs.Plan.{RunPlan, sinkStart}
-use Rattle.run.specs.Machine.{Machine, Request, refusal, leaving, delay, worst, Run, answer}
+use Rattle.run.specs.Machine.{Machine, Request, refusal, leaving, changed, delay, worst}
 use Rattle.run.specs.Demand.{place, sinkSet}
 use Rattle.run.proofs.Sound.{Sound}
-use Rattle.run.proofs.Tallies.{if-so}
 
 -- from x up to the next multiple of h it is (h - x % h) % h
 gap : (h x : ℕ) → 0 < h → h * roundedOf x h ≡ x + (h - x % h) % h
@@ -108,11 +107,8 @@ module _ (p : RunPlan) (ok : Sound p) where
     pub delay-worst : delay p m r ≤ worst p (m .mode) (r .mode)
     delay-worst = omega (arith, delay-is, mod-lt (p .iteration (m .mode) - place p m r) (ok .some-tick (m .mode) (accepted p m r h .old)))
 
-  pub delay-set : (s : Run) (r : Request) → refusal p (s .now) r ≡ 0 → sinkSet p (answer p s r) ≡ r .tick + delay p (s .now) r
-  unfolding answer
-  delay-set s r h =
-      ap (sinkSet p) (if-so (eqb (refusal p (s .now) r) 0) _ s (rw (eq-eqb (refusal p (s .now) r) 0 h) tt))
-      ∙ omega (arith, leaving-is (s .now) r h, zero-mul (p .period (r .mode) (p .sink (r .mode))))
+    pub delay-set : sinkSet p (changed p m r) ≡ r .tick + delay p m r
+    delay-set = omega (arith, leaving-is, zero-mul (p .period (r .mode) (p .sink (r .mode))))
 
   pub delay-same : (m n : Machine) (r q : Request) → refusal p m r ≡ 0 → refusal p n q ≡ 0
       → m .mode ≡ n .mode → r .mode ≡ q .mode → place p m r ≡ place p n q → delay p m r ≡ delay p n q

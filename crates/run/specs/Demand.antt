@@ -1,15 +1,16 @@
 -- Demand 3, of a plan.
 use Prim.Native.Nat.{ℕ, _+_, _-_, _%_, _≤_, _<_}
 use mathlib.Core.Path.{_≡_}
+use mathlib.Core.Bool.{cond}
 use mathlib.Core.Logic.{_≢_}
 use mathlib.Core.List.{List}
 use lib.Dec.{T}
 use Rattle.numbers.specs.Every.{Every}
 use Rattle.numbers.specs.Fraction.{AtMost}
 use Rattle.units.specs.Limits.{limitOf}
-use Rattle.run.specs.Plan.{RunPlan}
-use Rattle.run.specs.Machine.{Machine, Request, refusal, delay, worst, stays, Visit, visit, Run, visits, begin, answer, run}
-use Rattle.run.specs.Firing.{begins, EndTimes, InPeriod, taken, made, claimed, givenBack, totalIn, openIn, asked}
+use Rattle.run.specs.Plan.{RunPlan, Acts}
+use Rattle.run.specs.Machine.{Machine, Request, refusal, leaving, stays, leaves, Visit, visit, Run, visits, begin, run}
+use Rattle.run.specs.Firing.{begins, fires, underWay, isOpen, EndTimes, InPeriod, earliest, latest, taken, made, claimed, givenBack, total, totalIn, openIn, busy, asked}
 
 -- what holds of every run: of every starting mode and every list of requests, refused ones among them
 abbrev pub EveryRun : RunPlan → (Run → Type 0) → Type 0
@@ -19,15 +20,15 @@ EveryRun p Q = (m : ℕ) → T (p .listed m) → (rs : List Request) → Q (run 
 abbrev pub Timely : RunPlan → (EndTimes → List Visit → Type 0) → Type 0
 Timely p Q = (e : EndTimes) → EveryRun p (λ s. Every (InPeriod p e) (visits s) → Q e (visits s))
 
--- the tick set for the first firing of the sink in the mode now running
-abbrev pub sinkSet : RunPlan → Run → ℕ
-sinkSet p s = begins p (visit (s .now) stays) (p .sink (s .now .mode)) 0
+-- the tick set for the first firing of the sink in a machine's mode
+abbrev pub sinkSet : RunPlan → Machine → ℕ
+sinkSet p m = begins p (visit m stays) (p .sink (m .mode)) 0
 
 -- the place of a request in the old mode's iteration
 abbrev pub place : RunPlan → Machine → Request → ℕ
 place p m r = (r .tick - m .started) % p .iteration (m .mode)
 
--- m, c, t and proc are any mode, channel of it, tick and processor.
+-- Tokens, buffers and processors. m, c, t and proc are any mode, channel of it, tick and processor.
 pub record RightRuns (p : RunPlan) : Type 0 where
   -- No actor ever takes a token that is not there: by any tick no more were taken from a buffer than were made ..
   pub no-missing : Timely p (λ e vs. (m c t : ℕ) → c < p .channels m → totalIn vs m (taken p c t) ≤ totalIn vs m (made p e c t))
@@ -44,14 +45,18 @@ pub record RightRuns (p : RunPlan) : Type 0 where
       → (totalIn vs m (made p e c t) ≡ totalIn vs m (taken p c t)) × (totalIn vs m (claimed p c t) ≡ totalIn vs m (givenBack p e c t)))
   -- Once a change has ended, so has every mode but the one that runs.
   pub others-ended : EveryRun p (λ s. (m t : ℕ) → m ≢ s .now .mode → s .now .ended ≤ t → openIn p (visits s) m t ≡ 0)
-  -- The delay is what passes from an accepted request to the tick set for the sink's first firing ..
-  pub delayed : EveryRun p (λ s. (r : Request) → refusal p (s .now) r ≡ 0 → sinkSet p (answer p s r) ≡ r .tick + delay p (s .now) r)
-  -- .. and is at most the worst delay.
-  pub never-above : EveryRun p (λ s. (r : Request) → refusal p (s .now) r ≡ 0 → delay p (s .now) r ≤ worst p (s .now .mode) (r .mode))
-  -- Some request reaches the worst delay: for any two modes, one to a machine that has begun in the first.
-  pub reached : (o l : ℕ) → T (p .listed o) → T (p .listed l) → l ≢ o
-      → (r : Request) × (r .mode ≡ l) × (refusal p (begin p o .now) r ≡ 0) × (delay p (begin p o .now) r ≡ worst p o l)
-  -- It depends only on the two modes and the request's place: accepted requests, of whatever runs, that agree in these have one delay.
-  pub alone : EveryRun p (λ s. EveryRun p (λ z. (r q : Request) → refusal p (s .now) r ≡ 0 → refusal p (z .now) q ≡ 0
-      → s .now .mode ≡ z .now .mode → r .mode ≡ q .mode → place p (s .now) r ≡ place p (z .now) q
-      → delay p (s .now) r ≡ delay p (z .now) q))
+  -- Firings can end within their periods: in every run they do if each ends as it begins, and if each ends as its period does.
+  pub can-end : EveryRun p (λ s. Every (InPeriod p (earliest p)) (visits s) × Every (InPeriod p (latest p)) (visits s))
+
+-- How visits and firings stand to each other, whenever firings end. i and t are any actor and tick.
+pub record OrderlyRuns (p : RunPlan) : Type 0 where
+  -- At any tick at most two visits are under way, and at most one of each mode: visits of one mode never overlap.
+  pub two-visits : EveryRun p (λ s. (t : ℕ) → total (visits s) (λ v. cond (isOpen p t v) 1 0) ≤ 2)
+  pub apart : EveryRun p (λ s. (m t : ℕ) → openIn p (visits s) m t ≤ 1)
+  -- Only a visit that is under way has firings under way, so at most two visits load a tick.
+  pub none-elsewhere : EveryRun p (λ s. (t : ℕ) → Every (λ v. (i n : ℕ) → Acts p (v .mode) i → T (underWay p v i t n) → T (isOpen p t v)) (visits s))
+  -- An actor has at most one firing under way, over all visits.
+  pub one-firing : (i t : ℕ) → i < p .actors → EveryRun p (λ s. total (visits s) (busy p i t) ≤ 1)
+  -- An accepted request cancels no firing that has begun before its tick: it is still one of the visit's when that is left.
+  pub none-cancelled : (m : Machine) (r : Request) (i n : ℕ) → refusal p m r ≡ 0 → begins p (visit m stays) i n < r .tick
+      → T (fires p (visit m (leaves (leaving p m r))) i n)

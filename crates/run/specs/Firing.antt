@@ -41,6 +41,13 @@ EndTimes = Visit → ℕ → ℕ → ℕ
 abbrev pub InPeriod : RunPlan → EndTimes → Visit → Type 0
 InPeriod p e v = (i n : ℕ) → Acts p (v .mode) i → T (fires p v i n) → (begins p v i n ≤ e v i n) × (e v i n ≤ begins p v i n + p .period (v .mode) i)
 
+-- the earliest and the latest ends: a firing ends as it begins, or as its period does
+abbrev pub earliest : RunPlan → EndTimes
+earliest p v i n = begins p v i n
+
+abbrev pub latest : RunPlan → EndTimes
+latest p v i n = begins p v i n + p .period (v .mode) i
+
 -- the sum of f n over the numbers n below a bound that pass a test
 unfoldable pub tally : (ℕ → Bool) → (ℕ → ℕ) → ℕ → ℕ
 tally test f bound = sum (λ n. cond (test n) (f n) 0) bound
@@ -78,6 +85,10 @@ totalIn vs m f = total vs (λ v. cond (eqb (v .mode) m) (f v) 0)
 -- how many visits of mode m are under way at tick t: where none is, the mode has ended, or has not begun
 abbrev pub openIn : RunPlan → List Visit → ℕ → ℕ → ℕ
 openIn p vs m t = totalIn vs m (λ v. cond (isOpen p t v) 1 0)
+
+-- how many firings of actor i of a visit are under way at tick t
+unfoldable pub busy : RunPlan → ℕ → ℕ → Visit → ℕ
+busy p i t v = cond (p .active (v .mode) i) (tally (underWay p v i t) (λ n. 1) (suc t)) 0
 
 -- What a visit asks of a processor at tick t: each firing under way asks for wcet / T. And what all the visits of a list ask.
 unfoldable pub asks : RunPlan → ℕ → ℕ → Visit → Fraction
