@@ -21,7 +21,7 @@ use Rattle.planning.specs.declared.Plan.{Plan}
 use Rattle.planning.specs.Plan.{partAt}
 use Rattle.run.specs.Plan.{Acts}
 use Rattle.printer.specs.Texts.{texts}
-use Rattle.printer.specs.Printed.{firingsAt, periodAt, startAt, sizeAt, tokensAt, changeAt, five, lineText, actorText, channelText, changeText, actorsText, channelsText, modeText, modesText, activeOf, fromText, changesText, planText}
+use Rattle.printer.specs.Printed.{firingsAt, periodAt, startAt, sizeAt, tokensAt, changeIn, asFive, lineText, actorText, channelText, changeText, actorsText, channelsText, modeText, modesText, activeOf, fromText, changesText, planText}
 use Rattle.machine.specs.Plan.{modeOf, partOf, isListed, planOf}
 use Rattle.demands.specs.Demands.{changeOf, Within, PlanLines}
 
@@ -61,15 +61,15 @@ module _ (t : Table) (w : Plan) where
 
   -- the lines of an actor, of a channel and of a change, with the modes' numbers apart
   abbrev actorLine : ℕ → ℕ → ℕ → List ℕ
-  actorLine n m i = lineText (bytes "actor") (five n (numberOf i) (firingsAt (partOf w m) i .0) (periodAt (partOf w m) i .0) (startAt (partOf w m) i .0))
+  actorLine n m i = lineText (bytes "actor") (asFive n (numberOf i) (firingsAt (partOf w m) i .0) (periodAt (partOf w m) i .0) (startAt (partOf w m) i .0))
 
   abbrev channelLine : ℕ → ℕ → ℕ → List ℕ
   channelLine n m c =
       lineText (bytes "channel")
-      (five n (numberOf (channelAt (modeOf t m) c .from)) (numberOf (channelAt (modeOf t m) c .to)) (sizeAt (partOf w m) c .0) (tokensAt (partOf w m) c .0))
+      (asFive n (numberOf (channelAt (modeOf t m) c .from)) (numberOf (channelAt (modeOf t m) c .to)) (sizeAt (partOf w m) c .0) (tokensAt (partOf w m) c .0))
 
   abbrev changeLine : ℕ → ℕ → ℕ → ℕ → List ℕ
-  changeLine a b o l = lineText (bytes "change") (five a b (changeOf w o l .overlap .0) (changeOf w o l .offset .0) (changeOf w o l .worst .0))
+  changeLine a b o l = lineText (bytes "change") (asFive a b (changeOf w o l .overlap .0) (changeOf w o l .offset .0) (changeOf w o l .worst .0))
 
   actor-line : (m i : ℕ) → T (isListed t m) → Acts (planOf t w) m i → Within (actorLine m m i) (planText t w)
   actor-line m i h (l, a) =
@@ -101,7 +101,7 @@ module _ (t : Table) (w : Plan) where
       subst₂ (λ (x y : ℕ). Within (changeLine x y o l) (planText t w)) e f
       (behind (modesText t w)
       (among (fromText active (w .changes)) MODES (o - 1) k
-      (among (λ n. changeText (o - 1) n (getD active (o - 1) 0) (getD active n 0) (changeAt (w .changes) (o - 1) n)) MODES (l - 1) j (where-so test _ holds))))
+      (among (λ n. changeText (o - 1) n (getD active (o - 1) 0) (getD active n 0) (changeIn (w .changes) (o - 1) n)) MODES (l - 1) j (where-so test _ holds))))
 
   pub lines : PlanLines w (planOf t w) (planText t w)
   lines = record { actor = actor-line; channel = channel-line; change = change-line }

@@ -30,7 +30,7 @@ use Rattle.planning.specs.Plan.{changeAt, Listed, ModePlanned, ModeRefused, Pla
 use Rattle.run.specs.Plan.{RunPlan, Acts}
 use Rattle.run.specs.Machine as Run
 use Rattle.run.specs.Demand.{sinkSet, place, RightRuns, OrderlyRuns}
-use Rattle.printer.specs.Printed.{PRINTED, five, lineText, tokensAt, planText, Shows}
+use Rattle.printer.specs.Printed.{PRINTED, asFive, lineText, tokensAt, planText, Shows}
 use Rattle.layout.specs.Words.{WORDS, wordsOf}
 use Rattle.planner.specs.declared.Answer as planner
 use Rattle.planner.specs.declared.Answer.the-variants as Table′
@@ -119,13 +119,13 @@ pub record Within (line text : List ℕ) : Type 0 where
 -- the lines of a plan stand in a text; p is the plan as the run sees it, and its modes go by their numbers
 pub record PlanLines (w : Plan) (p : RunPlan) (text : List ℕ) : Type 0 where
   -- of each actor of a mode: mode, actor, firings in an iteration, period, start
-  pub actor : (m i : ℕ) → T (p .listed m) → Acts p m i → Within (lineText (bytes "actor") (five m (numberOf i) (p .firings m i) (p .period m i) (p .start m i))) text
+  pub actor : (m i : ℕ) → T (p .listed m) → Acts p m i → Within (lineText (bytes "actor") (asFive m (numberOf i) (p .firings m i) (p .period m i) (p .start m i))) text
   -- of each channel of a mode: mode, from, to, size, tokens in an iteration
   pub channel : (m c : ℕ) → T (p .listed m) → c < p .channels m
-      → Within (lineText (bytes "channel") (five m (numberOf (p .from m c)) (numberOf (p .to m c)) (p .size m c) (tokensAt (partOf w m) c .0))) text
+      → Within (lineText (bytes "channel") (asFive m (numberOf (p .from m c)) (numberOf (p .to m c)) (p .size m c) (tokensAt (partOf w m) c .0))) text
   -- of each change from one mode to another: old, new, overlap, offset, worst delay
   pub change : (o l : ℕ) → T (p .listed o) → T (p .listed l) → l ≢ o
-      → Within (lineText (bytes "change") (five o l (changeOf w o l .overlap .0) (changeOf w o l .offset .0) (changeOf w o l .worst .0))) text
+      → Within (lineText (bytes "change") (asFive o l (changeOf w o l .overlap .0) (changeOf w o l .offset .0) (changeOf w o l .worst .0))) text
 
 -- what is printed of words, into a buffer of bytes
 pub record PrintsRight : Type 0 where

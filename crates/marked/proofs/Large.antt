@@ -23,7 +23,7 @@ use Rattle.graph.specs.Judge.{timedOf, balancedOf, judgeOf}
 use Rattle.channel.specs.Phases.{startOf, sizeOf}
 use Rattle.schedule.specs.Model.{depthFrom, startsFrom, scheduleOf}
 use Rattle.printer.specs.Texts.{texts}
-use Rattle.printer.specs.Printed.{five, lineText, planText}
+use Rattle.printer.specs.Printed.{asFive, lineText, planText}
 use Rattle.marked.specs.Lines.{textOf}
 use Rattle.marked.proofs.Reckoned.{answerOf, partFor, planFor}
 use Rattle.marked.proofs.Claims.{tableIn}
@@ -44,13 +44,13 @@ abbrev text : List ℕ
 text = textOf ("actor,1,1,1,1,1" ∷ "actor,1,2,1,1048576,2" ∷ "channel,1,1,2,16,1" ∷ [])
 
 abbrev actorLine : ℕ → ℕ → ℕ → ℕ → List ℕ
-actorLine i q t s = lineText (bytes "actor") (five 1 i q t s)
+actorLine i q t s = lineText (bytes "actor") (asFive 1 i q t s)
 
-printed-lines : planText (tableIn text) (planFor (tableIn text)) ≡ inOne (actorLine 1 1 16777216 0) (actorLine 2 16 1048576 16777216) (lineText (bytes "channel") (five 1 1 2 32 16))
+printed-lines : planText (tableIn text) (planFor (tableIn text)) ≡ inOne (actorLine 1 1 16777216 0) (actorLine 2 16 1048576 16777216) (lineText (bytes "channel") (asFive 1 1 2 32 16))
 unfolding bit sum tab lowestOr gcdFrom mostOf rowsIn tableOf padded predsFrom roundFrom orderFrom chosen giversFrom entriesFrom stays fedOf countsFrom balancesb mostFrom commonFrom shareFrom timedOf balancedOf judgeOf startOf sizeOf depthFrom startsFrom scheduleOf answerOf partFor texts
 printed-lines = refl
 
-written-lines : (actorLine 1 1 16777216 0 ++ actorLine 2 16 1048576 16777216) ++ lineText (bytes "channel") (five 1 1 2 32 16)
+written-lines : (actorLine 1 1 16777216 0 ++ actorLine 2 16 1048576 16777216) ++ lineText (bytes "channel") (asFive 1 1 2 32 16)
     ≡ textOf ("actor,1,1,1,16777216,0" ∷ "actor,1,2,16,1048576,16777216" ∷ "channel,1,1,2,32,16" ∷ [])
 unfolding lineText joined
 written-lines =

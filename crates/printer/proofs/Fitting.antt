@@ -26,8 +26,8 @@ use Rattle.planning.specs.declared.Plan.{Plan}
 use Rattle.planning.specs.Plan.{partAt}
 use Rattle.printer.specs.declared.bytes.Five.{Five}
 use Rattle.printer.specs.Texts.{texts}
-use Rattle.printer.specs.Printed.{lineText, five, actorText, channelText, changeText, actorsText, channelsText, modeText, fromText, changesText, modesText, activeOf, planText, printedText}
-use Rattle.printer.specs.Printed.{firingsAt, periodAt, startAt, sizeAt, tokensAt, changeAt, ACTOR-LINE, CHANNEL-LINE, CHANGE-LINE, PRINTED, SmallPart, SmallTiming, Small}
+use Rattle.printer.specs.Printed.{lineText, asFive, actorText, channelText, changeText, actorsText, channelsText, modeText, fromText, changesText, modesText, activeOf, planText, printedText}
+use Rattle.printer.specs.Printed.{firingsAt, periodAt, startAt, sizeAt, tokensAt, changeIn, ACTOR-LINE, CHANNEL-LINE, CHANGE-LINE, PRINTED, SmallPart, SmallTiming, Small}
 use Rattle.printer.proofs.Digits.{digits-most, digits-within}
 
 -- a comma and a number; what stands in a line from its last fields on
@@ -102,14 +102,14 @@ module _ (m : ℕ) (M : Mode) (p : ModePlan) (h : m < MODES) (s : SmallPart M p)
   actor-most i l =
       cond-most (hasb (M .active) i) _ ACTOR-LINE
       (line-most (digits MODES) (digits ACTORS) (digits (MOST-FIRINGS .0)) (digits (ITERATION-LIMIT .0)) (digits (MOST-START .0)) (bytes "actor")
-      (five (numberOf m) (numberOf i) (firingsAt p i .0) (periodAt p i .0) (startAt p i .0))
+      (asFive (numberOf m) (numberOf i) (firingsAt p i .0) (periodAt p i .0) (startAt p i .0))
       (within _ MODES tt (omega arith)) (within _ ACTORS tt (omega arith)) (within _ (MOST-FIRINGS .0) tt (s .firings i l)) (within _ (ITERATION-LIMIT .0) tt (s .periods i l))
       (within _ (MOST-START .0) tt (s .starts i l)))
 
   channel-most : (k : ℕ) → k < M .count → length (channelText m (channelAt M k) (sizeAt p k) (tokensAt p k)) ≤ CHANNEL-LINE
   channel-most k l =
       line-most (digits MODES) (digits ACTORS) (digits ACTORS) (digits (MOST-SIZE .0)) (digits (MOST-CARRIED .0)) (bytes "channel")
-      (five (numberOf m) (numberOf (channelAt M k .from)) (numberOf (channelAt M k .to)) (sizeAt p k .0) (tokensAt p k .0))
+      (asFive (numberOf m) (numberOf (channelAt M k .from)) (numberOf (channelAt M k .to)) (sizeAt p k .0) (tokensAt p k .0))
       (within _ MODES tt (omega arith)) (within _ ACTORS tt (omega (arith, s .from k l))) (within _ ACTORS tt (omega (arith, s .to k l))) (within _ (MOST-SIZE .0) tt (s .sizes k l))
       (within _ (MOST-CARRIED .0) tt (s .tokens k l))
 
@@ -119,19 +119,19 @@ module _ (m : ℕ) (M : Mode) (p : ModePlan) (h : m < MODES) (s : SmallPart M p)
       let c : length (channelsText m M p) ≤ M .count * CHANNEL-LINE = texts-most _ CHANNEL-LINE (M .count) channel-most in
       omega (arith, s .count, length-append (actorsText m M p) (channelsText m M p))
 
-module _ (active : List ℕ) (cs : List Timing) (small : (o n : ℕ) → o < MODES → n < MODES → SmallTiming (changeAt cs o n)) (o : ℕ) (h : o < MODES) where
-  change-most : (n : ℕ) → n < MODES → length (changeText o n (getD active o 0) (getD active n 0) (changeAt cs o n)) ≤ CHANGE-LINE
+module _ (active : List ℕ) (cs : List Timing) (small : (o n : ℕ) → o < MODES → n < MODES → SmallTiming (changeIn cs o n)) (o : ℕ) (h : o < MODES) where
+  change-most : (n : ℕ) → n < MODES → length (changeText o n (getD active o 0) (getD active n 0) (changeIn cs o n)) ≤ CHANGE-LINE
   change-most n l =
       let s = small o n h l in
-      let t = changeAt cs o n in
+      let t = changeIn cs o n in
       cond-most (not (eqb (getD active o 0) 0) && (not (eqb (getD active n 0) 0) && not (eqb o n))) _ CHANGE-LINE
       (line-most (digits MODES) (digits MODES) (digits (MOST-START .0)) (digits (MOST-START .0)) (digits (MOST-DELAY .0)) (bytes "change")
-      (five (numberOf o) (numberOf n) (t .overlap .0) (t .offset .0) (t .worst .0))
+      (asFive (numberOf o) (numberOf n) (t .overlap .0) (t .offset .0) (t .worst .0))
       (within _ MODES tt (omega arith)) (within _ MODES tt (omega arith)) (within _ (MOST-START .0) tt (s .overlap)) (within _ (MOST-START .0) tt (s .offset))
       (within _ (MOST-DELAY .0) tt (s .worst)))
 
   -- a mode does not change to itself
-  change-none : changeText o o (getD active o 0) (getD active o 0) (changeAt cs o o) ≡ []
+  change-none : changeText o o (getD active o 0) (getD active o 0) (changeIn cs o o) ≡ []
   change-none = rw (eq-eqb o o refl) (go (not (eqb (getD active o 0) 0)) _)
     where
       go : (x : Bool) (s : List ℕ) → cond (x && (x && false)) s [] ≡ []
@@ -169,6 +169,6 @@ word {n} h = digits-most 19 n (omega (arith, h))
 pub refusal-fits : (p : Printed) → Fitting p → length (printedText p) ≤ PRINTED
 refusal-fits p f =
     le-trans
-    (line-most 20 20 20 20 20 (bytes "refused") (five (p .number) (p .row) (p .mode) (p .actor) (p .processor))
+    (line-most 20 20 20 20 20 (bytes "refused") (asFive (p .number) (p .row) (p .mode) (p .actor) (p .processor))
     (word (f .number)) (word (f .row)) (word (f .mode)) (word (f .actor)) (word (f .processor)))
     (omega arith)

@@ -53,30 +53,30 @@ abbrev pub tokensAt : ModePlan → ℕ → Token
 tokensAt p k = getD (p .tokens) k (token 0)
 
 -- the change from the mode at place o to the one at place n
-abbrev pub changeAt : List Timing → ℕ → ℕ → Timing
-changeAt cs o n = getD cs (MODES * o + n) noTiming
+abbrev pub changeIn : List Timing → ℕ → ℕ → Timing
+changeIn cs o n = getD cs (MODES * o + n) noTiming
 
 -- a word and five numbers as a line
 unfoldable pub lineText : List ℕ → Five → List ℕ
 lineText word x =
     joined (word ∷ decimal (x .0) ∷ decimal (x .1) ∷ decimal (x .2) ∷ decimal (x .3) ∷ decimal (x .4) ∷ []) ++ (13 ∷ 10 ∷ [])
 
-abbrev pub five : ℕ → ℕ → ℕ → ℕ → ℕ → Five
-five a b c d e = record { 0 = a; 1 = b; 2 = c; 3 = d; 4 = e }
+abbrev pub asFive : ℕ → ℕ → ℕ → ℕ → ℕ → Five
+asFive a b c d e = record { 0 = a; 1 = b; 2 = c; 3 = d; 4 = e }
 
 -- an actor, where it is active: mode, number, firings in an iteration, period and start
 abbrev pub actorText : ℕ → ℕ → ℕ → Firing → Tick → Tick → List ℕ
-actorText m active i q period start = cond (hasb active i) (lineText (bytes "actor") (five (numberOf m) (numberOf i) (q .0) (period .0) (start .0))) []
+actorText m active i q period start = cond (hasb active i) (lineText (bytes "actor") (asFive (numberOf m) (numberOf i) (q .0) (period .0) (start .0))) []
 
 -- a channel: mode, the actors that it leads from and to, size, and tokens in an iteration
 abbrev pub channelText : ℕ → Channel → Token → Token → List ℕ
-channelText m c size tokens = lineText (bytes "channel") (five (numberOf m) (numberOf (c .from)) (numberOf (c .to)) (size .0) (tokens .0))
+channelText m c size tokens = lineText (bytes "channel") (asFive (numberOf m) (numberOf (c .from)) (numberOf (c .to)) (size .0) (tokens .0))
 
 -- a change, where it is one between two different modes that are listed, by their active sets: old, new, overlap, offset and worst delay
 abbrev pub changeText : ℕ → ℕ → ℕ → ℕ → Timing → List ℕ
 changeText o n old new t =
     cond (not (eqb old 0) && (not (eqb new 0) && not (eqb o n)))
-    (lineText (bytes "change") (five (numberOf o) (numberOf n) (t .overlap .0) (t .offset .0) (t .worst .0)))
+    (lineText (bytes "change") (asFive (numberOf o) (numberOf n) (t .overlap .0) (t .offset .0) (t .worst .0)))
     []
 
 -- a mode: its actors in ascending order, then its channels in the order in which they are listed
@@ -91,7 +91,7 @@ modeText m M p = actorsText m M p ++ channelsText m M p
 
 -- the changes, by the old mode and then by the new one
 abbrev pub fromText : List ℕ → List Timing → ℕ → List ℕ
-fromText active cs o = texts (λ n. changeText o n (getD active o 0) (getD active n 0) (changeAt cs o n)) MODES
+fromText active cs o = texts (λ n. changeText o n (getD active o 0) (getD active n 0) (changeIn cs o n)) MODES
 
 abbrev pub changesText : List ℕ → List Timing → List ℕ
 changesText active cs = texts (fromText active cs) MODES
@@ -110,7 +110,7 @@ planText t w = modesText t w ++ changesText (activeOf t) (w .changes)
 
 -- what is printed of a refusal: one line
 abbrev pub printedText : Printed → List ℕ
-printedText p = lineText (bytes "refused") (five (p .number) (p .row) (p .mode) (p .actor) (p .processor))
+printedText p = lineText (bytes "refused") (asFive (p .number) (p .row) (p .mode) (p .actor) (p .processor))
 
 abbrev pub refusalText : Refusal → List ℕ
 refusalText r = printedText (printedOf r)
@@ -147,7 +147,7 @@ pub record SmallTiming (t : Timing) : Type 0 where
 
 pub record Small (t : Table) (w : Plan) : Type 0 where
   pub parts : (m : ℕ) → m < MODES → SmallPart (modeAt t m) (partAt w m)
-  pub changes : (o n : ℕ) → o < MODES → n < MODES → SmallTiming (changeAt (w .changes) o n)
+  pub changes : (o n : ℕ) → o < MODES → n < MODES → SmallTiming (changeIn (w .changes) o n)
 
 -- a text in the buffer: what is behind it is 0
 pub record Shows (text after : List ℕ) (r : ℕ) : Type 0 where

@@ -6,14 +6,14 @@ use lib.ListN.{getD}
 use Rattle.units.specs.Limits.{MODES}
 use Rattle.csv.specs.Laid.{Laid}
 use Rattle.printer.specs.Texts.{texts}
-use Rattle.printer.specs.Printed.{changeText, changeAt}
+use Rattle.printer.specs.Printed.{changeText, changeIn}
 use Rattle.csv.proofs.Laying.{laid-length}
 use Rattle.printer.proofs.Laying.{laid-first, laid-next, laid-last, room-next}
 use Rattle.printer.proofs.lines.changes_from.Statement.{statement}
 use Rattle.printer.proofs.lines.changes_from.Tie as tie
 
 abbrev Inv-loop : tie.InvT-loop
-Inv-loop out₀ from o active changes at₀ n₀ out at n = (n ≤ MODES) × Laid out₀ from (texts (λ n. changeText o n (getD active o 0) (getD active n 0) (changeAt changes o n)) n) out at
+Inv-loop out₀ from o active changes at₀ n₀ out at n = (n ≤ MODES) × Laid out₀ from (texts (λ n. changeText o n (getD active o 0) (getD active n 0) (changeIn changes o n)) n) out at
 
 abbrev μ-loop : tie.MeasureT-loop
 μ-loop out₀ from o active changes at₀ n₀ out at n = MODES - n
