@@ -47,7 +47,8 @@ use Rattle.planner.proofs.Leaving.{reads-one, leaves-stored, leaves-table, leav
 use Rattle.planner.proofs.Answering.{plans-unique}
 use Rattle.machine.specs.Answers.{machine}
 use Rattle.marked.specs.Lines.{Claim, prints, refuses, starts, loads, answers, Line, textOf, WhenPlanned, WhenPrinted, WhenBegun, timesAt, Claimed, Holds}
-use Rattle.marked.proofs.Reckoned.{answerOf, answersOf, planFor, plan-planned, first-refused}
+use Rattle.planning.proofs.Reckoned.{answerOf}
+use Rattle.marked.proofs.Reckoned.{answersOf, planFor, plan-planned, first-refused}
 use Rattle.marked.proofs.Told.{Tells, begun-answers}
 
 -- the text is read: it passes the test by computing, and is neither empty nor too long

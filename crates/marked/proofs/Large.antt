@@ -25,7 +25,8 @@ use Rattle.schedule.specs.Model.{depthFrom, startsFrom, scheduleOf}
 use Rattle.printer.specs.Texts.{texts}
 use Rattle.printer.specs.Printed.{asFive, lineText, planText}
 use Rattle.marked.specs.Lines.{textOf}
-use Rattle.marked.proofs.Reckoned.{answerOf, partFor, planFor}
+use Rattle.planning.proofs.Reckoned.{answerOf, partFor}
+use Rattle.marked.proofs.Reckoned.{planFor}
 use Rattle.marked.proofs.Claims.{tableIn}
 
 -- lines one behind the other, and nothing behind the last

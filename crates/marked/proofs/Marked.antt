@@ -24,7 +24,7 @@ use Rattle.run.specs.Machine.{refusal}
 use Rattle.printer.specs.Texts.{texts}
 use Rattle.printer.specs.Printed.{lineText}
 use Rattle.marked.specs.Lines.{Holds, lines}
-use Rattle.marked.proofs.Reckoned.{answerOf, partFor}
+use Rattle.planning.proofs.Reckoned.{answerOf, partFor}
 use Rattle.marked.proofs.Told.{Tells}
 use Rattle.marked.proofs.Claims.{all-hold}
 use Rattle.marked.proofs.Large.{large}
