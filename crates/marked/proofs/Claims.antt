@@ -52,7 +52,7 @@ use Rattle.marked.proofs.Reckoned.{answersOf, planFor, plan-planned, fi
 use Rattle.marked.proofs.Told.{Tells, begun-answers}
 
 -- the text is read: it passes the test by computing, and is neither empty nor too long
-abbrev IsRead : List ℕ → Type 0
+abbrev pub IsRead : List ℕ → Type 0
 IsRead text = T (readsb text && (ltb 0 (length text) && leb (length text) MOST-BYTES))
 
 -- the table of a text
@@ -60,7 +60,7 @@ abbrev pub tableIn : List ℕ → Table
 tableIn text = tableOf (rowsIn text)
 
 -- the text is read, and no mode of its table is refused
-abbrev Passes : List ℕ → Type 0
+abbrev pub Passes : List ℕ → Type 0
 Passes text = IsRead text × (answersOf (tableIn text) ≡ replicate MODES IsPlanned)
 
 -- an answer that refuses, with these five numbers
@@ -101,7 +101,7 @@ starts-at (s ∷ ss) n (suc i) = starts-at ss n i
 
 -- a text reads as its table, which is proper and has the plan that is reckoned
 module _ (text : List ℕ) where
-  reads : IsRead text → Reads text (tableIn text)
+  pub reads : IsRead text → Reads text (tableIn text)
   reads h =
       let (r, l) = both (readsb text) (ltb 0 (length text) && leb (length text) MOST-BYTES) h in
       let (some, few) = both (ltb 0 (length text)) (leb (length text) MOST-BYTES) l in
@@ -110,7 +110,7 @@ module _ (text : List ℕ) where
   proper : IsRead text → ProperTable (tableIn text)
   proper h = reads-proper text (tableIn text) (reads h)
 
-  planned : Passes text → Planned (tableIn text) (planFor (tableIn text))
+  pub planned : Passes text → Planned (tableIn text) (planFor (tableIn text))
   planned g = plan-planned (tableIn text) (proper (g .0)) (g .1)
 
 -- whatever is answered to a text with a plan, it is accepted and leaves that plan
@@ -120,7 +120,7 @@ module _ {text : List ℕ} {t : Table} {w : Plan} (r : Reads text t) (p : Planne
       let (e, k) = plans-unique q (accepted l r p) in (e, f after (record { text = text; reads = r; planned = p; left = k }))
 
   -- and it is the only plan
-  any-plan : (P : Table → Plan → Type 0) → P t w → (u : Table) (v : Plan) → Reads text u → Planned u v → P u v
+  pub any-plan : (P : Table → Plan → Type 0) → P t w → (u : Table) (v : Plan) → Reads text u → Planned u v → P u v
   any-plan P h u v s x = let e = reads-one r s in subst₂ P e (plan-unique u w v (subst (λ (y : Table). Planned y w) e p) x) h
 
 -- whatever is printed of words is the text of their plan

@@ -4,3 +4,4 @@ mod Told
 mod Claims
 mod Large
 pub mod Marked
+pub mod Planned

@@ -1,2 +1,3 @@
--- The marked lines.
+-- The marked lines, and the plan of the printed table in plain numbers.
 pub mod Lines
+pub mod Planned

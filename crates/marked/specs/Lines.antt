@@ -112,7 +112,7 @@ abbrev pub Holds : Line → Type 0
 Holds l = Claimed (textOf (l .rows)) (l .claim)
 
 -- the printed table: its rows of mode 1, and of mode 2
-abbrev one : List String
+abbrev pub one : List String
 one =
     "actor,1,1,2,1,1"
     ∷ "actor,1,2,1,4,2"
@@ -123,7 +123,7 @@ one =
     ∷ "channel,1,3,5,1,2 0"
     ∷ []
 
-abbrev two : List String
+abbrev pub two : List String
 two =
     "actor,2,1,2,1,1"
     ∷ "actor,2,2,1,8,2"
