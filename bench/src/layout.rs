@@ -1,6 +1,6 @@
 //! The plan buffer of docs/PLAN.md: words that hold a table and all that is planned of it.
 
-use crate::plan::{plan, Part, Plan};
+use crate::plan::{plan_into, Part, Plan};
 use crate::table::{Actor, Channel, Mode, Table};
 use crate::terms::{places, ACTORS, CHANNELS, MODES, PHASES, PROCESSORS, RATE_LIMIT, WCET_LIMIT};
 
@@ -65,14 +65,43 @@ fn write_mode(mode: &Mode, part: &Part, block: &mut [u64]) {
     }
 }
 
-/// The table and the plan that leave exactly these words; none where no accepted table does.
-pub fn recall(words: &[u64]) -> Option<(Table, Plan)> {
-    let words: &[u64; WORDS] = words.try_into().ok()?;
-    let table = table_of(words)?;
-    let plan = plan(&table).ok()?;
-    let mut again = [0; WORDS];
-    write(&table, &plan, &mut again);
-    (again == *words).then_some((table, plan))
+/// A table with its plan.
+#[derive(Default)]
+pub struct Recalled {
+    pub table: Table,
+    pub plan: Plan,
+}
+
+impl Recalled {
+    /// Recalls the table and the plan that leave exactly these words, where there was nothing;
+    /// none where no accepted table does.
+    pub fn from(&mut self, words: &[u64]) -> Option<()> {
+        let words: &[u64; WORDS] = words.try_into().ok()?;
+        table_into(words, &mut self.table)?;
+        plan_into(&self.table, &mut self.plan).ok()?;
+        self.leaves(words).then_some(())
+    }
+
+    /// Whether exactly these words are left.
+    fn leaves(&self, words: &[u64; WORDS]) -> bool {
+        let (modes, changes) = words.split_at(CHANGES);
+        let planned = self.table.modes.iter().zip(&self.plan.parts);
+        let mut modes = planned.zip(modes.chunks_exact(MODE));
+        let planned = self.plan.changes.iter().flatten();
+        let mut changes = planned.zip(changes.chunks_exact(CHANGE));
+        modes.all(|((mode, part), block)| holds(mode, part, block))
+            && changes.all(|(c, block)| block == [c.overlap, c.offset, c.worst])
+    }
+}
+
+/// Whether a block is what a mode leaves.
+fn holds(mode: &Mode, part: &Part, block: &[u64]) -> bool {
+    if mode.active == 0 {
+        return block.iter().fold(0, |any, &word| any | word) == 0;
+    }
+    let mut again = [0; MODE];
+    write_mode(mode, part, &mut again);
+    again == *block
 }
 
 /// The first word of the change from the mode at a place to the mode at another.
@@ -82,12 +111,11 @@ pub fn change_at(from: usize, to: usize) -> usize {
 
 /// Whether the buffer is exactly what some accepted table leaves.
 pub fn stored(words: &[u64]) -> bool {
-    recall(words).is_some()
+    Recalled::default().from(words).is_some()
 }
 
-/// The table that the words hold; none where no rows give it.
-fn table_of(words: &[u64; WORDS]) -> Option<Table> {
-    let mut table = Table::default();
+/// Reads the table that the words hold into an empty one; none where no rows give it.
+fn table_into(words: &[u64; WORDS], table: &mut Table) -> Option<()> {
     let mut processors = [0; ACTORS];
     let mut any = false;
     for (mode, block) in table.modes.iter_mut().zip(words.chunks_exact(MODE)) {
@@ -106,7 +134,7 @@ fn table_of(words: &[u64; WORDS]) -> Option<Table> {
             mode.slots[at] = channel_of(mode, &block[CHANNELS_AT + CHANNEL * at..])?;
         }
     }
-    any.then_some(table)
+    any.then_some(())
 }
 
 /// A word as a number of a range.

@@ -18,6 +18,7 @@ pub mod random;
 pub mod report;
 pub mod samples;
 pub mod schedule;
+pub mod stack;
 pub mod table;
 pub mod terms;
 pub mod text;

@@ -1,6 +1,6 @@
 //! A running machine: where it starts, and its answers to mode requests (refusals 11 to 16).
 
-use crate::layout::recall;
+use crate::layout::Recalled;
 use crate::plan::listed;
 use crate::terms::{Refusal, CLOCK_LIMIT, MODES};
 
@@ -14,10 +14,12 @@ pub struct Machine {
 
 /// Starts a machine at tick 0 in a listed mode; mode 0 stands for the lowest listed one.
 pub fn start(words: &[u64], mode: u64) -> Result<Machine, Refusal> {
-    let (table, plan) = recall(words).ok_or(Refusal::bare(15))?;
+    let mut recalled = Recalled::default();
+    recalled.from(words).ok_or(Refusal::bare(15))?;
+    let Recalled { table, plan } = &recalled;
     let place = match mode {
-        0 => listed(&table).next(),
-        _ => listed(&table).find(|&place| place as u64 + 1 == mode),
+        0 => listed(table).next(),
+        _ => listed(table).find(|&place| place as u64 + 1 == mode),
     };
     let place = place.ok_or(Refusal::bare(11))?;
     Ok(Machine {
@@ -30,7 +32,9 @@ pub fn start(words: &[u64], mode: u64) -> Result<Machine, Refusal> {
 impl Machine {
     /// Answers the request for a mode at a clock: the delay, and the machine after it.
     pub fn request(self, words: &[u64], mode: u64, clock: u64) -> Result<(u64, Machine), Refusal> {
-        let (table, plan) = recall(words).ok_or(Refusal::bare(15))?;
+        let mut recalled = Recalled::default();
+        recalled.from(words).ok_or(Refusal::bare(15))?;
+        let Recalled { table, plan } = &recalled;
         let is_listed = |number: u64| {
             (1..=MODES as u64).contains(&number) && table.modes[number as usize - 1].active != 0
         };

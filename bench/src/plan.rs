@@ -35,7 +35,13 @@ pub fn listed(table: &Table) -> impl Iterator<Item = usize> + Clone + '_ {
 
 /// Plans a table that the rows let pass.
 pub fn plan(table: &Table) -> Result<Plan, Refusal> {
-    let mut plan = Plan::default();
+    let mut planned = Plan::default();
+    plan_into(table, &mut planned)?;
+    Ok(planned)
+}
+
+/// Plans a table into a plan of nothing.
+pub fn plan_into(table: &Table, plan: &mut Plan) -> Result<(), Refusal> {
     for place in listed(table) {
         plan.parts[place] = part(&table.modes[place], place as u64 + 1)?;
     }
@@ -52,7 +58,7 @@ pub fn plan(table: &Table) -> Result<Plan, Refusal> {
             }
         }
     }
-    Ok(plan)
+    Ok(())
 }
 
 /// Plans one mode.

@@ -1,10 +1,10 @@
 //! The four calls that the product and the second opinion both answer, in one form for both.
 
-use crate::layout::{recall, write, WORDS};
+use crate::layout::{write, Recalled, WORDS};
 use crate::machine::{start, Machine};
-use crate::plan::plan;
+use crate::plan::{plan_into, Plan};
 use crate::print::{print, PRINTED};
-use crate::table::read;
+use crate::table::{read_into, Table};
 use crate::terms::Refusal;
 
 /// An answer as the C functions give it: whether accepted, and the refusal's five numbers, all 0
@@ -64,10 +64,10 @@ impl Planner for Independent {
         if words.len() != WORDS {
             return Answer::refused(Refusal::bare(15));
         }
-        let planned = read(text).and_then(|table| Ok((plan(&table)?, table)));
-        planned
-            .map(|(plan, table)| write(&table, &plan, words))
-            .into()
+        let mut table = Table::default();
+        let mut planned = Plan::default();
+        let answer = read_into(text, &mut table).and_then(|()| plan_into(&table, &mut planned));
+        answer.map(|()| write(&table, &planned, words)).into()
     }
 
     fn start(&self, words: &[u64], mode: u64, machine: &mut [u64; 3]) -> Answer {
@@ -101,14 +101,11 @@ impl Planner for Independent {
     }
 
     fn print(&self, words: &[u64], out: &mut [u8], length: &mut usize) -> Answer {
-        let recalled = if out.len() == PRINTED {
-            recall(words)
-        } else {
-            None
-        };
-        recalled
-            .map(|(table, plan)| *length = print(&table, &plan, out))
-            .ok_or(Refusal::bare(15))
-            .into()
+        let mut recalled = Recalled::default();
+        if out.len() != PRINTED || recalled.from(words).is_none() {
+            return Answer::refused(Refusal::bare(15));
+        }
+        *length = print(&recalled.table, &recalled.plan, out);
+        Answer::ACCEPTED
     }
 }

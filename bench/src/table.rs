@@ -50,10 +50,18 @@ pub struct Table {
 
 /// Reads a whole text: its length first, then its rows in order, and within a row 1 to 5.
 pub fn read(text: &[u8]) -> Result<Table, Refusal> {
+    let mut table = Table::default();
+    read_into(text, &mut table)?;
+    Ok(table)
+}
+
+/// Reads a whole text into a table that says nothing yet.
+pub fn read_into(text: &[u8], table: &mut Table) -> Result<(), Refusal> {
     if text.is_empty() || text.len() > TEXT_LIMIT {
         return Err(Refusal::at_row(1, 0));
     }
-    let mut reader = Reader::default();
+    let processors = [0; ACTORS];
+    let mut reader = Reader { table, processors };
     let mut rest = text;
     let mut row = 0;
     while !rest.is_empty() {
@@ -64,7 +72,7 @@ pub fn read(text: &[u8]) -> Result<Table, Refusal> {
             .map_err(|number| Refusal::at_row(number, row))?;
         rest = behind;
     }
-    Ok(reader.table)
+    Ok(())
 }
 
 /// The six contents of a record.
@@ -161,13 +169,12 @@ impl Rates {
 }
 
 /// What the rows so far have said: the table, and each actor's processor in any mode (0: none yet).
-#[derive(Default)]
-struct Reader {
-    table: Table,
+struct Reader<'a> {
+    table: &'a mut Table,
     processors: [u8; ACTORS],
 }
 
-impl Reader {
+impl Reader<'_> {
     /// Takes one more row, or says by which of 2 to 5 it is refused.
     fn take(&mut self, fields: &Fields) -> Result<(), u64> {
         match fields[0] {
