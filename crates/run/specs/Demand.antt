@@ -45,7 +45,8 @@ pub record RightRuns (p : RunPlan) : Type 0 where
       → (totalIn vs m (made p e c t) ≡ totalIn vs m (taken p c t)) × (totalIn vs m (claimed p c t) ≡ totalIn vs m (givenBack p e c t)))
   -- Once a change has ended, so has every mode but the one that runs.
   pub others-ended : EveryRun p (λ s. (m t : ℕ) → m ≢ s .now .mode → s .now .ended ≤ t → openIn p (visits s) m t ≡ 0)
-  -- Firings can end within their periods: in every run they do if each ends as it begins, and if each ends as its period does.
+  -- Firings can end within their periods: in every run they do if each ends as it begins, and if each ends as its period does. So what is said here of
+  -- ends within the periods holds of these two (holds-of-ends of proofs/Demand.antt).
   pub can-end : EveryRun p (λ s. Every (InPeriod p (earliest p)) (visits s) × Every (InPeriod p (latest p)) (visits s))
 
 -- How visits and firings stand to each other, whenever firings end. i and t are any actor and tick.
