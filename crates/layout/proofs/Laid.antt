@@ -2,8 +2,8 @@
 use mathlib.Core.Path.{_≡_, refl, sym, ap, ap₂, subst, _∙_}
 use mathlib.Core.List.{List, [], _++_, append-assoc, append-nil}
 use mathlib.Core.Logic.{_↔_}
-use Prim.Native.Nat.{ℕ, _+_, _-_, _*_, _≤_, _<_}
-use native.Mathlib.Nat.{mul-suc, mul-le-mul-left, le-of-eq}
+use Prim.Native.Nat.{ℕ, zero, suc, _+_, _-_, _*_, _≤_, _<_}
+use native.Mathlib.Nat.{mul-zero, mul-suc, mul-le-mul-left, le-of-eq}
 use native.Mathlib.Omega.{arith}
 use lib.ListN.{length, take, drop, length-append, length-take, length-drop, drop-of-length-le}
 use lib.Seq.{take-at, drop-at, take-all, take-add, sets, sets-eq}
@@ -82,3 +82,9 @@ pub stored : (vs l : List ℕ) → length l ≡ length vs → sets l 0 vs ≡ vs
 stored vs l h =
     sets-eq vs l 0 (omega arith)
     ∙ ap (λ (t : List ℕ). vs ++ t) (drop-of-length-le l {i = 0 + length vs} (omega arith)) ∙ append-nil vs
+
+-- a list whose first parts are those that are joined begins with them
+pub parts-joined : {A : Type 0} (k : ℕ) (f : ℕ → List A) (l : List A) (n : ℕ) → ((i : ℕ) → i < n → part k i l ≡ f i) → take (k * n) l ≡ joined n f
+unfolding joined
+parts-joined k f l zero h = rw (mul-zero k) refl
+parts-joined k f l (suc n) h = rw (mul-suc k n) (take-add (k * n) k l ∙ ap₂ _++_ (parts-joined k f l n (λ i b. h i (omega arith))) (h n (omega arith)))

@@ -1,3 +1,3 @@
 -- What the proofs lean on.
-mod Laid
+pub mod Laid
 mod Settled

@@ -6,8 +6,8 @@ use Prim.Native.Nat.{ℕ, zero, suc, _+_, _*_, _<_}
 use native.Mathlib.Nat.{mul-zero, mul-suc, le-of-suc-le-suc, not-suc-le-zero, eq-or-lt-of-le}
 use native.Mathlib.Numerals.{add-one}
 use native.Mathlib.Omega.{arith}
-use lib.ListN.{length, take, drop, length-append}
-use lib.Seq.{take-at, drop-at}
+use lib.ListN.{length, getD, take, drop, length-append}
+use lib.Seq.{take-at, drop-at, getD-take, getD-drop}
 
 module _ {A : Type 0} where
   -- the list f 0, behind it f 1, .. f (n - 1)
@@ -22,6 +22,9 @@ module _ {A : Type 0} where
   -- the i-th of its parts of k elements
   abbrev pub part : ℕ → ℕ → List A → List A
   part k i l = stretch (k * i) k l
+
+  pub getD-part : (k i j : ℕ) (l : List A) (d : A) → j < k → getD (part k i l) j d ≡ getD l (k * i + j) d
+  getD-part k i j l d h = getD-take k (drop (k * i) l) j d h ∙ getD-drop (k * i) l j d
 
   module _ (k : ℕ) (f : ℕ → List A) (each : (i : ℕ) → length (f i) ≡ k) where
     pub length-joined : (n : ℕ) → length (joined n f) ≡ k * n

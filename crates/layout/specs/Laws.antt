@@ -1,14 +1,17 @@
 -- The words of a plan are as many as the buffer has, and hold the table.
 use mathlib.Core.Path.{_≡_, refl, sym, ap, ap₂, _∙_}
+use mathlib.Core.Bool.{not}
 use mathlib.Core.List.{List, _++_}
 use Prim.Native.Nat.{ℕ, _+_, _*_, _%_, _≤_, _<_, _^_}
 use native.Mathlib.Nat.{mod-eq-of-lt}
 use native.Mathlib.Omega.{arith}
 use native.Mathlib.Decide.{decLt}
-use lib.ListN.{length, getD, take, replicate, length-append}
-use lib.Seq.{take-at, drop-at, take-all}
+use lib.Dec.{eqb}
+use lib.ListN.{length, getD, take, drop, replicate, length-append}
+use lib.Seq.{take-at, drop-at, take-all, getD-drop}
 use Rattle.numbers.specs.Tab.{tab, is-tab, getD-tab, getD-replicated}
 use Rattle.units.specs.Limits.{MODES, ACTORS, CHANNELS, PHASES, MOST-RATE}
+use Rattle.units.specs.Ticks.{tick}
 use Rattle.units.specs.Tokens.{token}
 use Rattle.units.specs.declared.Token.{Token}
 use Rattle.tables.specs.declared.Channel.{Channel}
@@ -19,8 +22,9 @@ use Rattle.tables.specs.Proper.{ProperMode, ProperTable}
 use Rattle.planning.specs.declared.ModePlan.{ModePlan}
 use Rattle.planning.specs.declared.Plan.{Plan}
 use Rattle.planning.specs.Plan.{partAt}
-use Rattle.layout.specs.Joined.{joined, stretch, part, length-joined, part-joined, joined-part}
-use Rattle.layout.specs.Words.{CHANGES, HEAD-WORDS, ACTOR-WORDS, CHANNEL-WORDS, MODE-WORDS, CHANGE-WORDS, WORDS, headWords, rateWords, channelWords, actorWordsAt, channelWordsAt, modeWords, modeWordsAt, changeWordsAt, modesWords, changesWords, wordsOf}
+use Rattle.layout.specs.Joined.{joined, stretch, part, length-joined, part-joined, joined-part, getD-part}
+use Rattle.layout.specs.Words.{CHANGES, HEAD-WORDS, ACTOR-WORDS, CHANNEL-WORDS, MODE-WORDS, CHANGE-WORDS, WORDS, timingAt, headWords, rateWords, channelWords, actorWordsAt, channelWordsAt, modeWords, modeWordsAt, changeWordsAt, modesWords, changesWords, wordsOf}
+use Rattle.layout.specs.Blocks.{paceOf}
 use Rattle.layout.specs.Read.{actorOf, ratesOf, channelOf, actorsOf, channelsOf, modeOf, graphOf}
 
 -- rates in their range, one for each phase there can be
@@ -121,3 +125,29 @@ graph-back t w h =
     ap (λ (l : List Mode). let r : Table = record { modes = l } in r)
     (sym (is-tab MODES (λ m. modeOf (part MODE-WORDS m (modesWords t w ++ changesWords w))) (t .modes) noMode (h .modes-long)
     (λ m l. sym (ap modeOf (part-joined MODE-WORDS (modeWordsAt t w) (length-mode-at t w) MODES m (changesWords w) l) ∙ mode-back (modeAt t m) (h .mode m l) (partAt w m)))))
+
+-- the words of a mode, and the offset of a change, stand in the words of the plan
+pub part-words : (t : Table) (w : Plan) (k : ℕ) → k < MODES → part MODE-WORDS k (wordsOf t w) ≡ modeWordsAt t w k
+unfolding wordsOf
+part-words t w k l = part-joined MODE-WORDS (modeWordsAt t w) (length-mode-at t w) MODES k (changesWords w) l
+
+pub changes-words : (t : Table) (w : Plan) → drop (MODE-WORDS * MODES) (wordsOf t w) ≡ changesWords w
+unfolding wordsOf
+changes-words t w = drop-at (modesWords t w) (changesWords w) (MODE-WORDS * MODES) (length-modes t w)
+
+pub offset-words : (w : Plan) (n : ℕ) → n < CHANGES → getD (changesWords w) (CHANGE-WORDS * n + 1) 0 ≡ timingAt w n .offset .0
+offset-words w n l =
+    sym (getD-part CHANGE-WORDS n 1 (changesWords w) 0 (omega arith)) ∙ ap (λ (l : List ℕ). getD l 1 0) (joined-part CHANGE-WORDS (changeWordsAt w) (λ k. refl) CHANGES n l)
+
+-- the pace of a mode stands in its words
+pub pace-words : (m : Mode) (p : ModePlan) → p .sink < ACTORS
+    → paceOf (modeWords m p) ≡ record { listed = not (eqb (m .active) 0); iteration = p .iteration; «sink_start» = getD (p .starts) (p .sink) (tick 0) }
+unfolding modeWords
+pace-words m p l =
+    let acts = joined ACTORS (actorWordsAt m p) in
+    let chans = joined CHANNELS (channelWordsAt m p) in
+    let start : getD (headWords m p ++ (acts ++ chans)) (HEAD-WORDS + (ACTOR-WORDS * p .sink + 5)) 0 ≡ getD (p .starts) (p .sink) (tick 0) .0
+    = sym (getD-drop HEAD-WORDS (headWords m p ++ (acts ++ chans)) (ACTOR-WORDS * p .sink + 5) 0)
+    ∙ sym (getD-part ACTOR-WORDS (p .sink) 5 (acts ++ chans) 0 (omega arith))
+    ∙ ap (λ (l : List ℕ). getD l 5 0) (part-joined ACTOR-WORDS (actorWordsAt m p) (λ j. refl) ACTORS (p .sink) chans l) in
+    ap (λ (n : ℕ). record { listed = not (eqb (m .active) 0); iteration = p .iteration; «sink_start» = tick n }) start

@@ -1,7 +1,9 @@
 // A buffer is compared with what would be written, part by part.
 use crate::store;
+use crate::store::CHANGES;
 use crate::store::CHANGES_WORDS;
 use crate::store::MODE_WORDS;
+use change::Timing;
 use planning::ModePlan;
 use planning::Plan;
 use tables::Mode;
@@ -9,9 +11,10 @@ use tables::Table;
 use units::limits::MODES;
 ghost use mathlib.Core.Path.{_≡_};
 ghost use Prim.Native.Nat.{_*_};
-ghost use lib.ListN.{length};
+ghost use lib.ListN.{length, replicate};
 ghost use Rattle.numbers.specs.Decides.{Decides};
 ghost use Rattle.units.specs.Limits.{MODES};
+ghost use Rattle.layout.specs.Blocks.{timedBy};
 ghost use Rattle.layout.specs.Words.{CHANGES, MODE-WORDS, CHANGE-WORDS, modeWords, modesWords, changesWords};
 
 // Whether two lists of words are the same.
@@ -27,7 +30,8 @@ fn same(a: &[u64], b: &[u64]) -> bool
     true
 }
 
-fn mode_holds(mode: Mode, part: ModePlan, words: &[u64]) -> bool
+// Whether these are the words of a mode with what is planned of it.
+pub fn mode_holds(mode: Mode, part: ModePlan, words: &[u64]) -> bool
     requires { ⌜ length (now words) ≡ MODE-WORDS ⌝ }
     ensures { λ r. ⌜ Decides (now (words .entry) ≡ modeWords mode part) r ⌝ }
 {
@@ -52,11 +56,23 @@ pub(crate) fn modes_hold(table: Table, plan: Plan, words: &[u64]) -> bool
     true
 }
 
-pub(crate) fn changes_hold(plan: Plan, words: &[u64]) -> bool
-    requires { ⌜ length (now words) ≡ CHANGE-WORDS * CHANGES ⌝ }
-    ensures { λ r. ⌜ Decides (now (words .entry) ≡ changesWords plan) r ⌝ }
+// Whether these are the words of the changes.
+pub fn changes_hold(changes: [Timing; CHANGES], words: &[u64]) -> bool
+    requires { ⌜ (length (now words) ≡ CHANGE-WORDS * CHANGES) × (length changes ≡ CHANGES) ⌝ }
+    ensures { λ r. ⌜ Decides (now (words .entry) ≡ changesWords (timedBy changes)) r ⌝ }
 {
     let mut fresh = [0u64; CHANGES_WORDS];
-    store::put_changes(plan, &mut fresh);
+    store::put_changes(changes, &mut fresh);
     same(words, &fresh)
+}
+
+// Whether all words are 0.
+pub fn blank(words: &[u64]) -> bool
+    ensures { λ r. ⌜ Decides (now (words .entry) ≡ replicate (length (now (words .entry))) 0) r ⌝ }
+{
+    let mut some = false;
+    for k in 0..words.len() {
+        some = some | (words[k] != 0);
+    }
+    !some
 }

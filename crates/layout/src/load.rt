@@ -1,12 +1,15 @@
 // A table is read from words: each function is lent the part that it reads.
 use crate::store::ACTOR_WORDS;
 use crate::store::ACTORS_AT;
+use crate::store::CHANGE_WORDS;
 use crate::store::CHANNEL_WORDS;
 use crate::store::CHANNELS_AT;
 use crate::store::CONSUMPTION_AT;
 use crate::store::MODE_WORDS;
+use crate::store::OFFSET_AT;
 use crate::store::PRODUCTION_AT;
 use crate::store::SIZE_AT;
+use crate::store::START_AT;
 use tables::Actor;
 use tables::Channel;
 use tables::Mode;
@@ -15,11 +18,13 @@ use units::limits::ACTORS;
 use units::limits::CHANNELS;
 use units::limits::PHASES;
 ghost use mathlib.Core.Path.{_≡_};
-ghost use Prim.Native.Nat.{_*_};
-ghost use lib.ListN.{length};
+ghost use Prim.Native.Nat.{_+_, _*_, _<_};
+ghost use lib.ListN.{length, getD};
 ghost use Rattle.units.specs.Limits.{ACTORS, CHANNELS, PHASES};
 ghost use Rattle.tables.specs.Shape.{noActor, emptyChannel, emptyMode};
-ghost use Rattle.layout.specs.Words.{ACTOR-WORDS, CHANNEL-WORDS, MODE-WORDS};
+ghost use Rattle.units.specs.Ticks.{tick};
+ghost use Rattle.layout.specs.Words.{CHANGES, ACTOR-WORDS, CHANNEL-WORDS, MODE-WORDS, CHANGE-WORDS};
+ghost use Rattle.layout.specs.Blocks.{paceOf};
 ghost use Rattle.layout.specs.Read.{actorOf, ratesOf, channelOf, actorsOf, channelsOf, modeOf};
 
 // How many sets of actors there are.
@@ -119,7 +124,8 @@ fn channels_of(words: &[u64]) -> [Channel; CHANNELS]
     channels
 }
 
-pub(crate) fn mode_of(words: &[u64]) -> Mode
+// The mode that its words hold.
+pub fn mode_of(words: &[u64]) -> Mode
     requires { ⌜ length (now words) ≡ MODE-WORDS ⌝ }
     ensures { λ r. ⌜ r ≡ modeOf (now (words .entry)) ⌝ }
 {
@@ -131,4 +137,34 @@ pub(crate) fn mode_of(words: &[u64]) -> Mode
         actors,
         channels,
     }
+}
+
+// What a machine needs of a mode: whether it is listed, its iteration, and the tick set for the first firing of its sink.
+pub struct Pace {
+    pub listed: bool,
+    pub iteration: Tick,
+    pub sink_start: Tick,
+}
+
+// The pace of the mode that its words hold.
+pub fn pace_of(words: &[u64]) -> Pace
+    requires { ⌜ (length (now words) ≡ MODE-WORDS) × (getD (now words) 4 0 < ACTORS) ⌝ }
+    ensures { λ r. ⌜ r ≡ paceOf (now (words .entry)) ⌝ }
+{
+    let sink = words[4] as usize;
+    let at = ACTORS_AT + (ACTOR_WORDS * sink + START_AT);
+    Pace {
+        listed: words[0] != 0,
+        iteration: Tick::of(words[2]),
+        sink_start: Tick::of(words[at]),
+    }
+}
+
+// The offset of the change at this place, of the words of the changes.
+pub fn offset_of(words: &[u64], place: usize) -> Tick
+    requires { ⌜ (length (now words) ≡ CHANGE-WORDS * CHANGES) × (place < CHANGES) ⌝ }
+    ensures { λ r. ⌜ r ≡ tick (getD (now (words .entry)) (CHANGE-WORDS * place + 1) 0) ⌝ }
+{
+    let at = CHANGE_WORDS * place + OFFSET_AT;
+    Tick::of(words[at])
 }

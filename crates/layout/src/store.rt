@@ -18,10 +18,13 @@ ghost use Prim.Native.Nat.{_*_};
 ghost use lib.ListN.{length};
 ghost use Rattle.units.specs.Limits.{MODES, ACTORS, CHANNELS, PHASES};
 ghost use Rattle.layout.specs.Joined.{joined};
+ghost use Rattle.layout.specs.Blocks.{timedBy};
 ghost use Rattle.layout.specs.Words.{CHANGES, HEAD-WORDS, ACTOR-WORDS, CHANNEL-WORDS, MODE-WORDS, CHANGE-WORDS, headWords, actorWords, rateWords, channelWords, actorWordsAt, channelWordsAt, modeWords, changeWords, modesWords, changesWords};
 
-// The words of an actor, and those of a channel: where its rates of production and consumption begin, its size, and the tokens that it carries.
+// The words of an actor, and where its start stands; and those of a channel: where its rates of production and consumption begin, its size, and the tokens that it carries.
 pub(crate) const ACTOR_WORDS: usize = 6;
+
+pub(crate) const START_AT: usize = 5;
 
 pub(crate) const PRODUCTION_AT: usize = 2;
 
@@ -40,10 +43,12 @@ pub(crate) const CHANNELS_AT: usize = ACTORS_AT + ACTOR_WORDS * ACTORS;
 
 pub(crate) const MODE_WORDS: usize = CHANNELS_AT + CHANNEL_WORDS * CHANNELS;
 
-// The words of a change, and of all of them.
-const CHANGE_WORDS: usize = 3;
+// The words of a change, where its offset stands, and the words of all of them.
+pub(crate) const CHANGE_WORDS: usize = 3;
 
-const CHANGES: usize = MODES * MODES;
+pub(crate) const OFFSET_AT: usize = 1;
+
+pub(crate) const CHANGES: usize = MODES * MODES;
 
 pub(crate) const CHANGES_WORDS: usize = CHANGE_WORDS * CHANGES;
 
@@ -69,7 +74,7 @@ fn put_actor(actor: Actor, firings: Firing, period: Tick, start: Tick, words: &m
     words[2] = actor.processor as u64;
     words[3] = firings.firings();
     words[4] = period.ticks();
-    words[5] = start.ticks();
+    words[START_AT] = start.ticks();
 }
 
 fn put_actors(mode: Mode, part: ModePlan, words: &mut [u64])
@@ -154,18 +159,18 @@ fn put_change(timing: Timing, words: &mut [u64])
     let offset = timing.offset;
     let worst = timing.worst;
     words[0] = overlap.ticks();
-    words[1] = offset.ticks();
+    words[OFFSET_AT] = offset.ticks();
     words[2] = worst.ticks();
 }
 
-pub(crate) fn put_changes(plan: Plan, words: &mut [u64])
-    requires { ⌜ length (now words) ≡ CHANGE-WORDS * CHANGES ⌝ }
-    ensures { λ _. ⌜ now (words .exit) ≡ changesWords plan ⌝ }
+pub(crate) fn put_changes(changes: [Timing; CHANGES], words: &mut [u64])
+    requires { ⌜ (length (now words) ≡ CHANGE-WORDS * CHANGES) × (length changes ≡ CHANGES) ⌝ }
+    ensures { λ _. ⌜ now (words .exit) ≡ changesWords (timedBy changes) ⌝ }
 {
     for k in 0..CHANGES {
         let a = CHANGE_WORDS * k;
         let e = a + CHANGE_WORDS;
-        let timing = plan.changes[k];
+        let timing = changes[k];
         put_change(timing, &mut words[a..e]);
     }
 }

@@ -1,4 +1,6 @@
 -- What the proofs lean on.
 pub mod Leaving
 pub mod Answering
+mod Blank
+pub mod Holding
 mod Settled

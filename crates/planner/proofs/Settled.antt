@@ -4,11 +4,14 @@ use contract.Lifetimes.{Lfts}
 use denote.Ref.{now}
 use denote.Triple.Clauses.{AtExit}
 use borrow.Fn.Kinds.{Dens, resT, endedOf}
+use Rattle.numbers.specs.Decides.{decides-unique}
 use Rattle.numbers.proofs.Settles.{Settles}
 use Rattle.planner.proofs.Leaving.{recalls-unique}
 use Rattle.planner.proofs.Answering.{plans-unique, prints-unique}
 use Rattle.planner.proofs.plan.Kinds as plan-kinds
 use Rattle.planner.proofs.plan.Reads as plan
+use Rattle.planner.proofs.is_plan.Kinds as is-plan-kinds
+use Rattle.planner.proofs.is_plan.Reads as is-plan
 use Rattle.planner.proofs.recall.Kinds as recall-kinds
 use Rattle.planner.proofs.recall.Reads as recall
 use Rattle.planner.proofs.print.Kinds as print-kinds
@@ -17,6 +20,9 @@ use Rattle.planner.proofs.print.Reads as print
 plan-settled : (κs : Lfts 2) (a : Dens κs plan-kinds.ps) (x y : resT plan-kinds.r κs .Denot) (s t : AtExit (endedOf 2 plan-kinds.ps plan-kinds.r) κs)
     → plan.Post κs a x s → plan.Post κs a y t → (x ≡ y) × (now (s .1 .0) ≡ now (t .1 .0))
 plan-settled κs a x y s t p q = plans-unique p q
+
+is-plan-settled : Settles 1 is-plan-kinds.ps is-plan-kinds.r is-plan.Post
+is-plan-settled κs a x y s t p q = decides-unique x y p q
 
 recall-settled : Settles 1 recall-kinds.ps recall-kinds.r recall.Post
 recall-settled κs a x y s t p q = recalls-unique p q

@@ -1,3 +1,4 @@
 -- The plan of a text, and the words that it leaves.
 pub mod Plans
 pub mod Numbers
+pub mod Held

@@ -1,15 +1,28 @@
-// The planner: a table into the caller's words, the plan that words hold, and what is printed of one.
+// The planner: a table into the caller's words, whether words are a plan, the plan that they hold, and what is printed of one.
+mod held;
+
+use held::held_mode;
+use layout::MODE_WORDS;
+use layout::MODES_END;
 use layout::WORDS;
 use planning::Plan;
+use planning::changes::changes_of;
+use planning::changes::idle;
 use planning::plan_of;
 use printer::PRINTED;
 use tables::Table;
+use tables::homes::at_home;
+use tables::homes::housed;
+use tables::homes::inhabited;
 use tables::proper::proper;
 use terms::refusal::NO_PLAN;
 use terms::refusal::Place;
 use terms::refusal::Refusal;
+use units::limits::ACTORS;
+use units::limits::MODES;
 ghost use mathlib.Core.Path.{_≡_};
-ghost use Rattle.planner.specs.Plans.{noPlan, Plans, Recalls, forgotten, Prints};
+ghost use Rattle.numbers.specs.Decides.{Decides};
+ghost use Rattle.planner.specs.Plans.{noPlan, Plans, Stored, Recalls, forgotten, Prints};
 
 // What is answered for a table.
 pub enum Answer {
@@ -61,6 +74,37 @@ pub fn plan(text: &[u8], words: &mut [u64]) -> Answer
     let plan = outcome.plan;
     layout::write(table, plan, words);
     Answer::Accepted
+}
+
+// Whether words are a plan: mode by mode, and then the changes.
+pub fn is_plan(words: &[u64]) -> bool
+    ensures { λ r. ⌜ Decides (Stored (now (words .entry))) r ⌝ }
+{
+    if words.len() != WORDS {
+        return false;
+    }
+    let mut homes = [0usize; ACTORS];
+    let mut runnings = [idle(); MODES];
+    for m in 0..MODES {
+        let a = MODE_WORDS * m;
+        let e = a + MODE_WORDS;
+        let held = held_mode(&words[a..e]);
+        if !held.good {
+            return false;
+        }
+        let running = held.running;
+        let actors = running.actors;
+        if !at_home(homes, actors) {
+            return false;
+        }
+        let next = housed(homes, actors);
+        homes = next;
+        runnings[m] = running;
+    }
+    if !inhabited(homes) {
+        return false;
+    }
+    layout::compare::changes_hold(changes_of(runnings), &words[MODES_END..WORDS])
 }
 
 fn forget() -> Recalled

@@ -21,17 +21,17 @@ use Rattle.planning.specs.declared.Answer.{Answer}
 use Rattle.planning.specs.declared.Answer.the-variants.{Planned as IsPlanned, Refused as IsRefused}
 use Rattle.planning.specs.Nothing.{noPart, emptyPart}
 use Rattle.planning.specs.Plan.{Listed, ModeRefused, ModePlanned, IsPart, Planning, refused, planned}
-use Rattle.planning.specs.Steps.{Comes, runningsOf, FoundParts}
+use Rattle.planning.specs.Steps.{runningsOf, FoundParts}
 use Rattle.planning.proofs.Unique.{listed-or-not}
 use Rattle.planning.proofs.Running.{all-ready}
-use Rattle.planning.proofs.Reckoned.{answerIn, partIn, mode-comes, changes-found}
+use Rattle.planning.proofs.Reckoned.{answerIn, partIn, Decided, mode-decides, changes-found}
 use Rattle.planning.proofs.Coming.{plan-comes}
 
 -- a mode has a part, or a refusal
 pub mode-decided : (m : Mode) (n : ℕ) → ProperMode m → ((p : ModePlan) × ModePlanned m p) ⊎ ((r : Refusal) × ModeRefused m n r)
-mode-decided m n proper = go (answerIn m n) (mode-comes m n proper)
+mode-decided m n proper = go (answerIn m n) (mode-decides m n proper)
   where
-    go : (a : Answer) → Comes m n a (partIn m) → ((p : ModePlan) × ModePlanned m p) ⊎ ((r : Refusal) × ModeRefused m n r)
+    go : (a : Answer) → Decided m n a (partIn m) → ((p : ModePlan) × ModePlanned m p) ⊎ ((r : Refusal) × ModeRefused m n r)
     go IsPlanned c = inl (_, c)
     go (IsRefused r) c = inr (_, c)
 

@@ -33,9 +33,9 @@ use Rattle.planning.specs.declared.ModePlan.{ModePlan}
 use Rattle.planning.specs.declared.Answer.{Answer}
 use Rattle.planning.specs.declared.Answer.the-variants.{Planned as IsPlanned, Refused as IsRefused}
 use Rattle.planning.specs.Nothing.{noTiming, emptyPart}
-use Rattle.planning.specs.Steps.{partFrom, Comes, AnyComes, runningAt, AllReady, Between, ChangeOf, FoundChanges}
+use Rattle.planning.specs.Plan.{ModeRefused, ModePlanned}
+use Rattle.planning.specs.Steps.{partFrom, AnyComes, runningAt, AllReady, Between, ChangeOf, FoundChanges}
 use Rattle.planning.proofs.Told.{judged-refuses, scheduled-refuses, scheduled-planned}
-use Rattle.planning.proofs.Coming.{any-comes}
 
 -- the answer to the mode with number n, by its verdict and by its timing
 abbrev pub answerBy : ℕ → Verdict → Lateness → Answer
@@ -59,12 +59,21 @@ answerOf m n = cond (eqb (m .active) 0) IsPlanned (answerIn m n)
 unfoldable pub partFor : Mode → ModePlan
 partFor m = cond (eqb (m .active) 0) emptyPart (partIn m)
 
+-- a mode has its part, or its refusal
+abbrev pub Decided : Mode → ℕ → Answer → ModePlan → Type 0
+Decided m n IsPlanned p = ModePlanned m p
+Decided m n (IsRefused r) p = ModeRefused m n r
+
+any-decided : (m : Mode) (n : ℕ) (a : Answer) (p : ModePlan) → (m .active ≡ 0 → ⊥) → Decided m n a p → AnyComes m n a p
+any-decided m n IsPlanned p h c = ((λ l. c), (λ e. absurd (h e)))
+any-decided m n (IsRefused r) p h c = (h, c)
+
 module _ (m : Mode) (n : ℕ) (proper : ProperMode m) where
-  pub mode-comes : Comes m n (answerIn m n) (partIn m)
-  mode-comes = go (judgeOf m .verdict) (scheduleOf m (judgeOf m) .timing) refl refl
+  pub mode-decides : Decided m n (answerIn m n) (partIn m)
+  mode-decides = go (judgeOf m .verdict) (scheduleOf m (judgeOf m) .timing) refl refl
     where
       go : (v : Verdict) (a : Lateness) → judgeOf m .verdict ≡ v → scheduleOf m (judgeOf m) .timing ≡ a
-          → Comes m n (answerBy n v a) (partIn m)
+          → Decided m n (answerBy n v a) (partIn m)
       go Cyclic a e f = judged-refuses n Cyclic tt (judge-judged m proper) e
       go Ends a e f = judged-refuses n Ends tt (judge-judged m proper) e
       go Unbalanced a e f = judged-refuses n Unbalanced tt (judge-judged m proper) e
@@ -78,7 +87,7 @@ module _ (m : Mode) (n : ℕ) (proper : ProperMode m) where
     where
       go : (b : Bool) → eqb (m .active) 0 ≡ b → AnyComes m n (cond b IsPlanned (answerIn m n)) (cond b emptyPart (partIn m))
       go true e = ((λ h. absurd (h (eqb-true _ _ e))), (λ h. refl))
-      go false e = any-comes m n (answerIn m n) (partIn m) (eqb-false _ _ e) mode-comes
+      go false e = any-decided m n (answerIn m n) (partIn m) (eqb-false _ _ e) mode-decides
 
 -- the change between two modes as they run, where there is one
 abbrev changeBy : Running → Running → Tick → Timing

@@ -38,7 +38,7 @@ use Rattle.planning.specs.declared.ModePlan.{ModePlan}
 use Rattle.planning.specs.Nothing.{noPart}
 use Rattle.planning.specs.Plan.{Listed, ModePlanned, IsPart, timesOf}
 use Rattle.planning.specs.Steps.{noRunning, idleRunning, runningsOf, AllReady, FoundParts, runningOf}
-use Rattle.planning.proofs.Bounds.{mode-small, part-small}
+use Rattle.planning.proofs.Bounds.{mode-small}
 
 -- a mode with an actor is listed
 pub listed-some : (t : Table) (k : ℕ) → ProperTable t → k < MODES → (modeAt t k .active ≡ 0 → ⊥) → Listed t k
@@ -109,18 +109,18 @@ module _ (m : Mode) (proper : ProperMode m) where
         works = refl;
       }
 
-module _ (t : Table) (proper : ProperTable t) where
-  pub part-fitting : (k : ℕ) (p : ModePlan) → k < MODES → IsPart t k p → Fitting (modeAt t k .actors) (p .firings) (p .starts)
-  part-fitting k p l is =
-      let small = part-small t proper k p l is in
+  pub mode-fitting : (p : ModePlan) → ModePlanned m p → Fitting (m .actors) (p .firings) (p .starts)
+  mode-fitting p w =
+      let small = mode-small m p proper w in
       record {
-        actors-long = proper .mode k l .actors-long;
+        actors-long = proper .actors-long;
         firings-long = small .firings-long;
         starts-long = small .starts-long;
-        wcet = wcet-small (modeAt t k) (proper .mode k l);
+        wcet = wcet-small;
         few = λ i h. small .firings i;
       }
 
+module _ (t : Table) (proper : ProperTable t) where
   -- a mode that is not listed has no actor and no part
   pub part-idle : (k : ℕ) (p : ModePlan) → k < MODES → IsPart t k p → modeAt t k .active ≡ 0 → idleRunning ≡ runningOf (modeAt t k) p
   part-idle k p l is e =

@@ -31,14 +31,19 @@ use Rattle.graph.proofs.Unique.{only-unique, of-actors, smallest-same, lengths-
 use Rattle.schedule.specs.Starts.{Starts, Late}
 use Rattle.schedule.specs.Scheduled.{Scheduled}
 use Rattle.schedule.proofs.Unique.{starts-unique, scheduled-unique}
+use Rattle.change.specs.declared.Running.{Running}
+use Rattle.change.specs.declared.Timing.{Timing}
 use Rattle.change.specs.Change.{Changes, changes-unique}
 use Rattle.planning.specs.declared.ModePlan.{ModePlan}
 use Rattle.planning.specs.declared.Plan.{Plan}
+use Rattle.planning.specs.declared.modes.Piece.{Piece}
+use Rattle.planning.specs.declared.Answer.{Answer}
 use Rattle.planning.specs.declared.Answer.the-variants.{Refused as IsRefused, Planned as IsPlanned}
 use Rattle.planning.specs.declared.Outcome.{Outcome}
 use Rattle.planning.specs.Nothing.{noPart, noTiming, emptyPlan}
 use Rattle.planning.specs.Plan.{changeAt, Listed, periodsOf, Balanced, ModeRefused, by-6, by-7, by-8, by-9, by-10, ModePlanned, IsPart, timesOf, Leads, IsChange, Planned, Planning, refused, planned}
-use Rattle.planning.specs.Steps.{partFrom}
+use Rattle.planning.specs.OneMode.{Comes}
+use Rattle.planning.specs.Steps.{partFrom, runningAt, Between, FoundChanges}
 use Rattle.planning.proofs.Told.{unbalanced-not, judgementOf, timetableOf, planned-scheduled}
 
 module _ {m : Mode} where
@@ -114,6 +119,31 @@ module _ {m : Mode} where
   planned-refused w (by-8 k e u) = unbalanced-not u (w .balanced)
   planned-refused w (by-9 q o) = w .bearable _ (over-same q (w .balanced) _ (o .holds))
   planned-refused w (by-10 q g c l) = w .prompt _ (late-same q (w .balanced) c (subst (λ (ps : List Tick). Starts m ps (w .begin)) (w .periods) (w .least)) _ (l .holds))
+
+-- one thing comes of a mode
+pub comes-unique : (m : Mode) (n : ℕ) (x y : Piece) → Comes m n (x .answer) (x .part) → Comes m n (y .answer) (y .part) → x ≡ y
+comes-unique m n x y = go (x .answer) (y .answer) (x .part) (y .part)
+  where
+    go : (a b : Answer) (p q : ModePlan) → Comes m n a p → Comes m n b q → _≡_ {A = Piece} (record { answer = a; part = p }) (record { answer = b; part = q })
+    go IsPlanned IsPlanned x y p q = ap (λ (p : ModePlan). record { answer = IsPlanned; part = p }) (part-unique p q)
+    go IsPlanned (IsRefused s) x y p q = absurd (planned-refused p (q .0))
+    go (IsRefused r) IsPlanned x y p q = absurd (planned-refused q (p .0))
+    go (IsRefused r) (IsRefused s) x y p q = ap₂ (λ (r : Refusal) (p : ModePlan). record { answer = IsRefused r; part = p }) (refusal-unique (p .0) (q .0)) (p .1 ∙ sym (q .1))
+
+-- there is one change between two modes as they run, and one list of the changes between all
+between-unique : (old new : Running) (k l : ℕ) {c d : Timing} → Between old new k l c → Between old new k l d → c ≡ d
+between-unique old new k l {c} {d} p q = go (ℕ-discrete (old .active) 0) (ℕ-discrete (new .active) 0) (ℕ-discrete k l)
+  where
+    go : Dec (old .active ≡ 0) → Dec (new .active ≡ 0) → Dec (k ≡ l) → c ≡ d
+    go (no a) (no b) (no n) = changes-unique _ _ (p .0 a b n) (q .0 a b n)
+    go (no a) (no b) (yes e) = p .1 (λ h. h .2 e) ∙ sym (q .1 (λ h. h .2 e))
+    go (no a) (yes b) n = p .1 (λ h. h .1 b) ∙ sym (q .1 (λ h. h .1 b))
+    go (yes a) b n = p .1 (λ h. h .0 a) ∙ sym (q .1 (λ h. h .0 a))
+
+pub changes-found-unique : (rs : List Running) {x y : List Timing} → FoundChanges rs x (MODES * MODES) → FoundChanges rs y (MODES * MODES) → x ≡ y
+changes-found-unique rs {x} {y} p q =
+    ext-getD noTiming x y (p .long ∙ sym (q .long))
+    (λ n h. let l : n < MODES * MODES = omega (arith, p .long) in between-unique (runningAt rs (n / MODES)) (runningAt rs (n % MODES)) (n / MODES) (n % MODES) (p .each n l) (q .each n l))
 
 module _ (t : Table) where
   -- a mode is listed or not

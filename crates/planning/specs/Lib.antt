@@ -2,4 +2,5 @@
 pub mod Nothing
 pub mod Plan
 pub mod Numbers
+pub mod OneMode
 pub mod Steps

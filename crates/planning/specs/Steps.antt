@@ -43,12 +43,7 @@ partFrom j s =
 abbrev pub FoundParts : Table → List ModePlan → ℕ → Type 0
 FoundParts t ps k = Filled MODES (IsPart t) emptyPart noPart ps k
 
--- what comes of the listed mode with number n: its part, or its refusal
-abbrev pub Comes : Mode → ℕ → Answer → ModePlan → Type 0
-Comes m n IsPlanned p = ModePlanned m p
-Comes m n (IsRefused r) p = ModeRefused m n r
-
--- and of any mode
+-- what comes of the mode with number n, which may be unlisted: its part, or its refusal
 abbrev pub AnyComes : Mode → ℕ → Answer → ModePlan → Type 0
 AnyComes m n IsPlanned p = ((m .active ≡ 0 → ⊥) → ModePlanned m p) × (m .active ≡ 0 → p ≡ emptyPart)
 AnyComes m n (IsRefused r) p = (m .active ≡ 0 → ⊥) × ModeRefused m n r

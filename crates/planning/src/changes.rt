@@ -6,6 +6,7 @@ use change::Works;
 use change::change;
 use change::prepare;
 use tables::Actor;
+use tables::Mode;
 use tables::Table;
 use units::Firing;
 use units::Tick;
@@ -14,10 +15,11 @@ use units::limits::MODES;
 ghost use mathlib.Core.Path.{_≡_};
 ghost use Prim.Native.Nat.{_*_};
 ghost use Rattle.units.specs.Limits.{MODES};
-ghost use Rattle.tables.specs.Proper.{ProperTable};
+ghost use Rattle.tables.specs.Proper.{ProperMode, ProperTable};
 ghost use Rattle.change.specs.Running.{Ready};
 ghost use Rattle.planning.specs.Nothing.{noTiming};
-ghost use Rattle.planning.specs.Steps.{idleRunning, runningsOf, AllReady, Between, FoundParts, FoundChanges};
+ghost use Rattle.planning.specs.Plan.{ModePlanned};
+ghost use Rattle.planning.specs.Steps.{runningOf, idleRunning, runningsOf, AllReady, Between, FoundParts, FoundChanges};
 
 // No change.
 pub(crate) fn none() -> Timing
@@ -31,7 +33,7 @@ pub(crate) fn none() -> Timing
 }
 
 // A mode in which nothing runs.
-fn idle() -> Running
+pub fn idle() -> Running
     ensures { λ r. ⌜ r ≡ idleRunning ⌝ }
 {
     let actor = Actor {
@@ -56,6 +58,28 @@ fn idle() -> Running
     }
 }
 
+// A mode as it runs, with what is planned of it.
+pub fn running_of(mode: Mode, part: ModePlan) -> Running
+    requires { ⌜ ProperMode mode × ModePlanned mode part ⌝ }
+    ensures { λ r. ⌜ r ≡ runningOf mode part ⌝ }
+{
+    let actors = mode.actors;
+    let firings = part.firings;
+    let periods = part.periods;
+    let starts = part.starts;
+    let sink = part.sink;
+    prepare(
+        mode.active,
+        actors,
+        part.iteration,
+        firings,
+        periods,
+        starts,
+        starts[sink],
+        part.startup,
+    )
+}
+
 // The modes of a table with these parts, as they run.
 pub(crate) fn runnings_of(table: Table, parts: [ModePlan; MODES]) -> [Running; MODES]
     requires { ⌜ ProperTable table × FoundParts table parts MODES ⌝ }
@@ -65,22 +89,7 @@ pub(crate) fn runnings_of(table: Table, parts: [ModePlan; MODES]) -> [Running; M
     for k in 0..MODES {
         let mode = table.modes[k];
         if mode.active != 0 {
-            let part = parts[k];
-            let actors = mode.actors;
-            let firings = part.firings;
-            let periods = part.periods;
-            let starts = part.starts;
-            let sink = part.sink;
-            runnings[k] = prepare(
-                mode.active,
-                actors,
-                part.iteration,
-                firings,
-                periods,
-                starts,
-                starts[sink],
-                part.startup,
-            );
+            runnings[k] = running_of(mode, parts[k]);
         }
     }
     runnings
@@ -104,7 +113,7 @@ fn between(old: Running, new: Running, k: usize, l: usize) -> Timing
 }
 
 // The changes between all pairs of modes.
-pub(crate) fn changes_of(runnings: [Running; MODES]) -> [Timing; MODES * MODES]
+pub fn changes_of(runnings: [Running; MODES]) -> [Timing; MODES * MODES]
     requires { ⌜ AllReady runnings ⌝ }
     ensures { λ r. ⌜ FoundChanges runnings r (MODES * MODES) ⌝ }
 {

@@ -1,6 +1,6 @@
 // The plan of a whole table: its modes, and the changes between them.
-mod changes;
-mod modes;
+pub mod changes;
+pub mod modes;
 
 use change::Timing;
 use tables::Table;

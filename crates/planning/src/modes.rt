@@ -30,16 +30,17 @@ ghost use Rattle.graph.specs.declared.Verdict.the-variants.{Sound};
 ghost use Rattle.graph.specs.Judged.{Judged};
 ghost use Rattle.planning.specs.declared.Answer.the-variants.{Refused};
 ghost use Rattle.planning.specs.Nothing.{emptyPart};
-ghost use Rattle.planning.specs.Steps.{partFrom, Comes, AnyComes, AllCome};
+ghost use Rattle.planning.specs.OneMode.{Comes};
+ghost use Rattle.planning.specs.Steps.{partFrom, AnyComes, AllCome};
 
 // What comes of a mode: its answer, and its part.
-pub(crate) struct Piece {
+pub struct Piece {
     pub answer: Answer,
     pub part: ModePlan,
 }
 
 // What comes of the modes of a table: its answer, and their parts.
-pub(crate) struct Pieces {
+pub struct Pieces {
     pub answer: Answer,
     pub parts: [ModePlan; MODES],
 }
@@ -118,8 +119,8 @@ fn timed(mode: Mode, number: u64, judged: Judgement) -> Piece
     }
 }
 
-// What comes of a mode; `number` is the mode's.
-fn piece_of(mode: Mode, number: u64) -> Piece
+// What comes of a mode by itself; `number` is the mode's.
+pub fn plan_mode(mode: Mode, number: u64) -> Piece
     requires { ⌜ ProperMode mode ⌝ }
     ensures { λ r. ⌜ Comes mode number (r .answer) (r .part) ⌝ }
 {
@@ -151,7 +152,7 @@ fn any_of(mode: Mode, number: u64) -> Piece
             part: nothing(),
         };
     }
-    piece_of(mode, number)
+    plan_mode(mode, number)
 }
 
 // What comes of the modes of a table, from the lowest on, until one is refused.

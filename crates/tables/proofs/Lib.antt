@@ -1,5 +1,5 @@
 -- What the proofs lean on.
 mod Shape
 mod Parts
-mod Housing
+pub mod Housing
 mod Settled

@@ -10,7 +10,7 @@ ghost use Rattle.units.specs.Limits.{ACTORS};
 ghost use Rattle.tables.specs.Parts.{AtHome, housedOf};
 
 // Whether each actor of a mode that has a home is on it.
-pub(crate) fn at_home(homes: [usize; ACTORS], actors: [Actor; ACTORS]) -> bool
+pub fn at_home(homes: [usize; ACTORS], actors: [Actor; ACTORS]) -> bool
     requires { ⌜ (length homes ≡ ACTORS) × (length actors ≡ ACTORS) ⌝ }
     ensures { λ r. ⌜ Decides (Below (AtHome homes actors) ACTORS) r ⌝ }
 {
@@ -26,7 +26,7 @@ pub(crate) fn at_home(homes: [usize; ACTORS], actors: [Actor; ACTORS]) -> bool
 }
 
 // The homes, with those that a mode gives to actors that had none.
-pub(crate) fn housed(homes: [usize; ACTORS], actors: [Actor; ACTORS]) -> [usize; ACTORS]
+pub fn housed(homes: [usize; ACTORS], actors: [Actor; ACTORS]) -> [usize; ACTORS]
     requires { ⌜ (length homes ≡ ACTORS) × (length actors ≡ ACTORS) ⌝ }
     ensures { λ r. ⌜ r ≡ housedOf homes actors ⌝ }
 {
@@ -43,7 +43,7 @@ pub(crate) fn housed(homes: [usize; ACTORS], actors: [Actor; ACTORS]) -> [usize;
 }
 
 // Whether some actor has a home.
-pub(crate) fn inhabited(homes: [usize; ACTORS]) -> bool
+pub fn inhabited(homes: [usize; ACTORS]) -> bool
     requires { ⌜ length homes ≡ ACTORS ⌝ }
     ensures { λ r. ⌜ Decides ((i : ℕ) × (i < ACTORS) × (0 < getD homes i 0)) r ⌝ }
 {

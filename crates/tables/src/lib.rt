@@ -1,7 +1,7 @@
 // A table in memory. Modes, actors and processors are numbered from 1 in a table's text; in these arrays the one with number n stands at n - 1.
 mod actors;
 mod channels;
-mod homes;
+pub mod homes;
 pub mod proper;
 
 use units::Tick;

@@ -7,7 +7,8 @@ use units::limits::MODES;
 ghost use Rattle.numbers.specs.Decides.{Decides};
 ghost use Rattle.tables.specs.Proper.{ProperMode, ProperTable};
 
-fn proper_mode(mode: Mode) -> bool
+// Whether the mode is proper.
+pub fn proper_mode(mode: Mode) -> bool
     ensures { λ r. ⌜ Decides (ProperMode mode) r ⌝ }
 {
     if CHANNELS < mode.count {

@@ -1,9 +1,9 @@
 -- layout::holds meets its contract. Assumes nothing.
 use borrow.Author.Needs.{needs}
 use borrow.Author.Tests.{not-true, not-false}
-use mathlib.Core.Path.{ap, _∙_}
+use mathlib.Core.Path.{sym, ap, _∙_}
 use denote.Ref.{now}
-use lib.ListN.{length, take}
+use lib.ListN.{length, take, length-map}
 use lib.Seq.{take-at}
 use Prim.Native.Nat.{_*_}
 use Rattle.numbers.specs.Decides.{decides-no, decides-true, decides-false}
@@ -26,13 +26,18 @@ returns-2 c =
     decides-false {r = c .before .modes-hold .result} (c .before .modes-hold .ensures) (not-true _ (c .if2 .taken))
     (ap (take (MODE-WORDS * MODES)) e ∙ take-at (modesWords (a .table) (a .plan)) (changesWords (a .plan)) (MODE-WORDS * MODES) (length-modes (a .table) (a .plan))))
 
+changes-requires : tie.Need-changes-hold-requires
+changes-requires c κs =
+    let s = c .before .before .before .before .before .before .before in
+    (search needs, sym (length-map (s .args .plan .changes) _) ∙ s .good .1 .0 .1 .1 .1 .0 .1 .0 .1)
+
 returns-3 : tie.Need-returns-3
 unfolding wordsOf
 returns-3 c =
-    let a = c .before .before .before .before .before .before .before .args in
+    let a = c .before .before .before .before .before .before .before .before .args in
     let d = c .changes-hold .ensures in
-    let h = two-parts (MODE-WORDS * MODES) (CHANGE-WORDS * CHANGES) (modesWords (a .table) (a .plan)) (changesWords (a .plan)) (now (a .words)) (length-modes (a .table) (a .plan)) (length-changes (a .plan)) (c .before .before .before .before .before .if1 .left)
-    (decides-true {r = c .before .before .before .modes-hold .result} (c .before .before .before .modes-hold .ensures) (not-false _ (c .before .before .if2 .left))) in
+    let h = two-parts (MODE-WORDS * MODES) (CHANGE-WORDS * CHANGES) (modesWords (a .table) (a .plan)) (changesWords (a .plan)) (now (a .words)) (length-modes (a .table) (a .plan)) (length-changes (a .plan)) (c .before .before .before .before .before .before .if1 .left)
+    (decides-true {r = c .before .before .before .before .modes-hold .result} (c .before .before .before .before .modes-hold .ensures) (not-false _ (c .before .before .before .if2 .left))) in
     ((λ t. h .0 (d .0 t)), (λ e. d .1 (h .1 e)))
 
 pub holds-spec : {M : Type 1} → statement M
@@ -48,5 +53,5 @@ holds-spec =
     (λ c. search needs)
     (λ c. search needs)
     (λ c. search needs)
-    (λ c κs. search needs)
+    changes-requires
     returns-3)

@@ -1,9 +1,10 @@
 -- layout::write meets its contract. Assumes nothing.
 use borrow.Author.Needs.{needs}
-use mathlib.Core.Path.{refl}
+use mathlib.Core.Path.{refl, sym, _∙_}
 use Prim.Native.Nat.{_*_}
 use native.Mathlib.Omega.{arith}
 use denote.Ref.{now}
+use lib.ListN.{length-map}
 use Rattle.units.specs.Limits.{MODES}
 use Rattle.layout.specs.Words.{wordsOf, MODE-WORDS, CHANGE-WORDS, CHANGES}
 use Rattle.layout.specs.Laws.{length-modes, length-changes, length-words}
@@ -11,10 +12,15 @@ use Rattle.layout.proofs.Laid.{laid-none, laid-put, laid-all}
 use Rattle.layout.proofs.write.Statement.{statement}
 use Rattle.layout.proofs.write.Tie as tie
 
+changes-requires : tie.Need-put-changes-requires
+changes-requires c κs =
+    let s = c .before .before .before .before .before .before .before in
+    (search needs, sym (length-map (s .args .plan .changes) _) ∙ s .good .1 .0 .1 .1 .1 .0 .1 .0 .1)
+
 returns : tie.Need-returns
 unfolding wordsOf
 returns c =
-    let s = c .before .before .before .before .before .before .before .before .before in
+    let s = c .before .before .before .before .before .before .before .before .before .before in
     let t = s .args .table in
     let w = s .args .plan in
     let modes = c .before .before .before .before .before .before .put-modes .ensures in
@@ -37,6 +43,6 @@ write-spec =
     (λ c. search needs)
     (λ c. search needs)
     (λ c. search needs)
-    (λ c κs. search needs)
+    changes-requires
     (λ c. search needs)
     returns)

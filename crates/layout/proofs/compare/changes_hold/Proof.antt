@@ -6,6 +6,7 @@ use Prim.Native.Nat.{ℕ}
 use denote.Ref.{now}
 use lib.ListN.{length}
 use Rattle.numbers.specs.Decides.{Decides}
+use Rattle.layout.specs.Blocks.{timedBy}
 use Rattle.layout.specs.Laws.{length-changes}
 use Rattle.layout.proofs.compare.changes_hold.Statement.{statement}
 use Rattle.layout.proofs.compare.changes_hold.Tie as tie
@@ -13,7 +14,7 @@ use Rattle.layout.proofs.compare.changes_hold.Tie as tie
 same-requires : tie.Need-same-requires
 same-requires c κs =
     let s = c .before .before .before .before .before in
-    s .pre ∙ sym (ap length (c .before .before .put-changes .ensures) ∙ length-changes (s .args .plan))
+    s .pre .0 ∙ sym (ap length (c .before .before .put-changes .ensures) ∙ length-changes (timedBy (s .args .changes)))
 
 returns : tie.Need-returns
 returns c =

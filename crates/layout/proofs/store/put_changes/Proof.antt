@@ -4,16 +4,17 @@ use mathlib.Core.Path.{refl}
 use Prim.Native.Nat.{_≤_, _-_}
 use native.Mathlib.Omega.{arith}
 use lib.ListN.{length-take, length-drop}
+use Rattle.layout.specs.Blocks.{timedBy}
 use Rattle.layout.specs.Words.{CHANGES, CHANGE-WORDS, changeWordsAt}
 use Rattle.layout.proofs.Laid.{Begun, begun-none, begun-put, begun-all}
 use Rattle.layout.proofs.store.put_changes.Statement.{statement}
 use Rattle.layout.proofs.store.put_changes.Tie as tie
 
 abbrev Inv-loop : tie.InvT-loop
-Inv-loop words₀ plan k₀ words k = (k ≤ CHANGES) × Begun CHANGE-WORDS (changeWordsAt plan) CHANGES words k
+Inv-loop words₀ changes k₀ words k = (k ≤ CHANGES) × Begun CHANGE-WORDS (changeWordsAt (timedBy changes)) CHANGES words k
 
 abbrev μ-loop : tie.MeasureT-loop
-μ-loop words₀ plan k₀ words k = CHANGES - k
+μ-loop words₀ changes k₀ words k = CHANGES - k
 
 loop-again : tie.Need-loop-again Inv-loop μ-loop
 loop-again c =
@@ -26,7 +27,7 @@ put-changes-spec =
     (tie.spec
     Inv-loop
     μ-loop
-    (λ c. (omega arith, begun-none CHANGE-WORDS _ (λ j. refl) CHANGES _ (c .before .pre)))
+    (λ c. (omega arith, begun-none CHANGE-WORDS _ (λ j. refl) CHANGES _ (c .before .pre .0)))
     (λ c. omega arith)
     (λ c. omega arith)
     (λ c. omega arith)

@@ -1,16 +1,15 @@
 -- planning::changes::runnings_of meets its contract. The invariant: the listed modes below k are prepared, and the others are idle. Assumes nothing.
 use borrow.Author.Needs.{needs}
 use mathlib.Core.Logic.{⊎-elim}
-use Prim.Native.Nat.{_-_, _<_}
+use Prim.Native.Nat.{_-_}
 use native.Mathlib.Omega.{arith}
 use lib.ListN.{getD}
 use Rattle.numbers.specs.Filled.{FilledBy, filled-none, filled-set, filled-left, filled-all}
-use Rattle.units.specs.Limits.{MODES, ACTORS}
+use Rattle.units.specs.Limits.{MODES}
 use Rattle.tables.specs.Shape.{modeAt}
 use Rattle.planning.specs.Nothing.{noPart}
 use Rattle.planning.specs.Steps.{idleRunning, runningOf}
-use Rattle.planning.proofs.Bounds.{part-small}
-use Rattle.planning.proofs.Running.{part-fitting, part-idle}
+use Rattle.planning.proofs.Running.{listed-some, part-idle}
 use Rattle.planning.proofs.changes.runnings_of.Statement.{statement}
 use Rattle.planning.proofs.changes.runnings_of.Tie as tie
 
@@ -24,21 +23,13 @@ abbrev μ-loop : tie.MeasureT-loop
 loop-holds : tie.Need-loop-holds Inv-loop μ-loop
 loop-holds c = rw (c .idle .ensures) (filled-none MODES _ idleRunning idleRunning)
 
--- the sink has a place
-sink-place : (c : tie.After-starts Inv-loop μ-loop)
-    → getD (c .before .before .before .before .before .before .before .before .before .before .before .args .t2) (c .before .before .before .before .before .before .before .before .before .loop .k) noPart .sink < ACTORS
-sink-place c =
-    let t = c .before .before .before .before .before .before .before .before in
+running-requires : tie.Need-running-of-requires Inv-loop μ-loop
+running-requires c κs =
+    let t = c .before .before .before .before in
     let k = t .before .loop .k in
     let p = t .before .before .before .pre in
-    part-small _ (p .0) k _ (t .loop-test .taken) (p .1 .each k (t .loop-test .taken)) .sink
-
-prepare-requires : tie.Need-prepare-requires Inv-loop μ-loop
-prepare-requires c κs =
-    let t = c .before .before .before .before .before .before .before .before .before in
-    let k = t .before .loop .k in
-    let p = t .before .before .before .pre in
-    part-fitting _ (p .0) k _ (t .loop-test .taken) (p .1 .each k (t .loop-test .taken))
+    let h = t .loop-test .taken in
+    (p .0 .mode k h, p .1 .each k h .listed (listed-some _ k (p .0) h (c .before .if1 .taken)))
 
 loop-again : tie.Need-loop-again Inv-loop μ-loop
 loop-again c =
@@ -47,7 +38,7 @@ loop-again c =
     let p = t .before .before .before .pre in
     let h = t .loop-test .taken in
     ⊎-elim
-    (λ w. rw (w .8) (filled-set MODES _ idleRunning idleRunning (l .runnings) (l .k) _ h (w .7 .ensures) (l .inv)))
+    (λ w. rw (w .3) (filled-set MODES _ idleRunning idleRunning (l .runnings) (l .k) _ h (w .2 .ensures) (l .inv)))
     (λ w. rw (w .1) (filled-left MODES _ idleRunning idleRunning (l .runnings) (l .k) h (part-idle _ (p .0) (l .k) _ h (p .1 .each (l .k) h) (w .0 .left)) (l .inv)))
     (c .if1 .came)
 
@@ -66,9 +57,7 @@ runnings-of-spec =
     (λ c. omega arith)
     (λ c. omega arith)
     (λ c. omega arith)
-    (λ c. omega (arith, sink-place c))
-    (λ c. omega (arith, sink-place c))
-    prepare-requires
+    running-requires
     (λ c. omega arith)
     (λ c. omega arith)
     (λ c. omega arith)

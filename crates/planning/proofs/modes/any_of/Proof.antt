@@ -11,4 +11,4 @@ any-of-spec =
     (λ c κs. search needs)
     (λ c. ((λ n. absurd (n (c .before .if1 .taken))), (λ e. c .nothing .ensures)))
     (λ c κs. search needs)
-    (λ c. let a = c .before .before .before .args in any-comes (a .mode) (a .number) (c .piece-of .result .answer) (c .piece-of .result .part) (c .before .if1 .left) (c .piece-of .ensures)))
+    (λ c. let a = c .before .before .before .args in any-comes (a .mode) (a .number) (c .plan-mode .result .answer) (c .plan-mode .result .part) (c .before .if1 .left) (c .plan-mode .ensures)))

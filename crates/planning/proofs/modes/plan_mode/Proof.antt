@@ -1,13 +1,13 @@
--- planning::modes::piece_of meets its contract. Assumes nothing.
+-- planning::modes::plan_mode meets its contract. Assumes nothing.
 use borrow.Author.Needs.{needs}
-use mathlib.Core.Path.{sym, subst}
+use mathlib.Core.Path.{refl, sym, subst}
 use native.Mathlib.Omega.{arith}
 use Rattle.graph.specs.declared.Verdict.the-variants.{Cyclic, Ends, Unbalanced, Overloaded}
 use Rattle.planning.specs.declared.modes.Piece.{Piece}
-use Rattle.planning.specs.Steps.{Comes}
+use Rattle.planning.specs.OneMode.{Comes}
 use Rattle.planning.proofs.Told.{judged-refuses, judged-processor}
-use Rattle.planning.proofs.modes.piece_of.Statement.{statement}
-use Rattle.planning.proofs.modes.piece_of.Tie as tie
+use Rattle.planning.proofs.modes.plan_mode.Statement.{statement}
+use Rattle.planning.proofs.modes.plan_mode.Tie as tie
 
 -- what comes of the mode
 abbrev Come : tie.Start → Piece → Type 0
@@ -16,27 +16,27 @@ Come c r = Comes (c .args .mode) (c .args .number) (r .answer) (r .part)
 returns : tie.Need-returns
 returns c =
     let j = c .before .before .before in
-    subst (Come (j .before)) (sym (c .refused .ensures)) (judged-refuses _ Cyclic tt (j .judge .ensures) (c .before .enum-told .given .1))
+    subst (Come (j .before)) (sym (c .refused .ensures)) (judged-refuses _ Cyclic tt (j .judge .ensures) (c .before .enum-told .given .1), refl)
 
 returns-2 : tie.Need-returns-2
 returns-2 c =
     let j = c .before .before .before in
-    subst (Come (j .before)) (sym (c .refused2 .ensures)) (judged-refuses _ Ends tt (j .judge .ensures) (c .before .enum-told2 .given .1))
+    subst (Come (j .before)) (sym (c .refused2 .ensures)) (judged-refuses _ Ends tt (j .judge .ensures) (c .before .enum-told2 .given .1), refl)
 
 returns-3 : tie.Need-returns-3
 returns-3 c =
     let j = c .before .before .before in
-    subst (Come (j .before)) (sym (c .refused3 .ensures)) (judged-refuses _ Unbalanced tt (j .judge .ensures) (c .before .enum-told3 .given .1))
+    subst (Come (j .before)) (sym (c .refused3 .ensures)) (judged-refuses _ Unbalanced tt (j .judge .ensures) (c .before .enum-told3 .given .1), refl)
 
 returns-4 : tie.Need-returns-4
 returns-4 c =
     let d = c .before .before .before in
     let j = d .before .before in
     subst (Come (j .before)) (sym (c .refused4 .ensures))
-    (rw (c .before .number-of .ensures) (judged-refuses _ (Overloaded (d .verdict .given .0 .0)) tt (j .judge .ensures) (d .verdict .given .1)))
+    (rw (c .before .number-of .ensures) (judged-refuses _ (Overloaded (d .verdict .given .0 .0)) tt (j .judge .ensures) (d .verdict .given .1)), refl)
 
-pub piece-of-spec : {M : Type 1} → statement M
-piece-of-spec =
+pub plan-mode-spec : {M : Type 1} → statement M
+plan-mode-spec =
     tie.close
     (tie.spec
     (λ c κs. search needs)
