@@ -3,7 +3,6 @@ use mathlib.Core.Path.{_≡_}
 use mathlib.Core.Bool.{Bool, true, false}
 use mathlib.Core.List.{List}
 use Prim.Native.Nat.{ℕ}
-use Rattle.tables.specs.declared.Mode.{Mode}
 use Rattle.tables.specs.Proper.{ProperMode}
 use Rattle.change.specs.declared.Running.{Running}
 use Rattle.planning.specs.declared.ModePlan.{ModePlan}

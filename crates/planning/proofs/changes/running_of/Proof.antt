@@ -1,5 +1,4 @@
 -- planning::changes::running_of meets its contract. Assumes nothing.
-use borrow.Author.Needs.{needs}
 use native.Mathlib.Omega.{arith}
 use Rattle.planning.proofs.Bounds.{mode-small}
 use Rattle.planning.proofs.Running.{mode-fitting}
