@@ -39,10 +39,10 @@ use Rattle.planning.specs.declared.Answer.{Answer}
 use Rattle.planning.specs.declared.Answer.the-variants.{Planned as IsPlanned, Refused as IsRefused}
 use Rattle.planning.specs.Nothing.{noPart, noTiming, emptyPart, emptyPlan}
 use Rattle.planning.specs.Plan.{IsPart, Planned, Planning, refused}
-use Rattle.planning.specs.Steps.{partFrom, Comes, AnyComes, runningAt, runningsOf, AllReady, Between, ChangeOf, FoundParts, FoundChanges}
+use Rattle.planning.specs.Steps.{partFrom, AnyComes, runningAt, runningsOf, AllReady, Between, ChangeOf, FoundParts, FoundChanges}
 use Rattle.planning.proofs.Told.{judged-refuses, scheduled-refuses, scheduled-planned}
 use Rattle.planning.proofs.Running.{all-ready, listed-some}
-use Rattle.planning.proofs.Coming.{any-comes, part-comes, plan-comes}
+use Rattle.planning.proofs.Coming.{part-comes, plan-comes}
 
 -- the answer to the mode with number n, by its verdict and by its timing
 abbrev answerBy : ℕ → Verdict → Lateness → Answer
@@ -67,17 +67,17 @@ unfoldable pub partFor : Mode → ModePlan
 partFor m = cond (eqb (m .active) 0) emptyPart (partIn m)
 
 module _ (m : Mode) (n : ℕ) (proper : ProperMode m) where
-  mode-comes : Comes m n (answerIn m n) (partIn m)
-  mode-comes = go (judgeOf m .verdict) (scheduleOf m (judgeOf m) .timing) refl refl
+  mode-comes : (m .active ≡ 0 → ⊥) → AnyComes m n (answerIn m n) (partIn m)
+  mode-comes h = go (judgeOf m .verdict) (scheduleOf m (judgeOf m) .timing) refl refl
     where
       go : (v : Verdict) (a : Lateness) → judgeOf m .verdict ≡ v → scheduleOf m (judgeOf m) .timing ≡ a
-          → Comes m n (answerBy n v a) (partIn m)
-      go Cyclic a e f = judged-refuses n Cyclic tt (judge-judged m proper) e
-      go Ends a e f = judged-refuses n Ends tt (judge-judged m proper) e
-      go Unbalanced a e f = judged-refuses n Unbalanced tt (judge-judged m proper) e
-      go (Overloaded p) a e f = judged-refuses n (Overloaded p) tt (judge-judged m proper) e
-      go Sound (Late a) e f = scheduled-refuses n (judge-judged m proper) e (schedule-scheduled m (judgeOf m) proper (judge-judged m proper) e) f
-      go Sound OnTime e f = scheduled-planned (judge-judged m proper) e (schedule-scheduled m (judgeOf m) proper (judge-judged m proper) e) f
+          → AnyComes m n (answerBy n v a) (partIn m)
+      go Cyclic a e f = (h, judged-refuses n Cyclic tt (judge-judged m proper) e)
+      go Ends a e f = (h, judged-refuses n Ends tt (judge-judged m proper) e)
+      go Unbalanced a e f = (h, judged-refuses n Unbalanced tt (judge-judged m proper) e)
+      go (Overloaded p) a e f = (h, judged-refuses n (Overloaded p) tt (judge-judged m proper) e)
+      go Sound (Late a) e f = (h, scheduled-refuses n (judge-judged m proper) e (schedule-scheduled m (judgeOf m) proper (judge-judged m proper) e) f)
+      go Sound OnTime e f = ((λ l. scheduled-planned (judge-judged m proper) e (schedule-scheduled m (judgeOf m) proper (judge-judged m proper) e) f), (λ z. absurd (h z)))
 
   pub any-mode-comes : AnyComes m n (answerOf m n) (partFor m)
   unfolding answerOf partFor
@@ -85,7 +85,7 @@ module _ (m : Mode) (n : ℕ) (proper : ProperMode m) where
     where
       go : (b : Bool) → eqb (m .active) 0 ≡ b → AnyComes m n (cond b IsPlanned (answerIn m n)) (cond b emptyPart (partIn m))
       go true e = ((λ h. absurd (h (eqb-true _ _ e))), (λ h. refl))
-      go false e = any-comes m n (answerIn m n) (partIn m) (eqb-false _ _ e) mode-comes
+      go false e = mode-comes (eqb-false _ _ e)
 
 -- the change between two modes as they run, where there is one
 abbrev changeBy : Running → Running → Tick → Timing
