@@ -12,7 +12,7 @@ use lib.Dec.{T, eqb}
 use Rattle.numbers.specs.Extreme.{Least, least-unique}
 use Rattle.numbers.specs.Quotient.{roundedOf, rounded-of}
 use Rattle.numbers.specs.Lowest.{sought, lowest-is, FirstPasses, NonePasses}
-use Rattle.units.specs.Limits.{MODES, ACTORS, CLOCK-LIMIT}
+use Rattle.units.specs.Limits.{MODES, CLOCK-LIMIT}
 use Rattle.units.specs.declared.Tick.{Tick}
 use Rattle.units.specs.Ticks.{tick}
 use Rattle.terms.specs.Refusal.{NO-MODE, SAME-MODE, PAST-CLOCK, UNENDED, NO-MACHINE}
@@ -168,10 +168,6 @@ module _ {t : Table} {w : Plan} {words : List ℕ} (l : Leaves t w words) where
           reply = Accepted (tick (left-is i + d + sinkStart p mode - clock .0));
           machine = record { mode = mode; started = tick (left-is i + d); ended = tick (max (left-is i + p .startup (m .mode)) (left-is i + d + p .startup mode)) };
         }
-
-    -- the new sink's start is there to be read
-    pub sink-there : partOf w mode .sink < ACTORS
-    sink-there = runs t w (leaves-proper l) (l .planned) mode (a .new) .small .sink
 
     pub accepts : {x : Answer} → x ≡ changedOf m (courseOf w (m .mode) mode) mode clock → Answers words m mode clock x
     accepts x = subst (Answers words m mode clock) (sym (x ∙ changed-is)) (accepted l (Delay.accepts (planOf t w) (seen m) (asking mode clock) a))

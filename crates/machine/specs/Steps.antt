@@ -1,5 +1,8 @@
 -- Model of the machine's code: the lowest mode, and the change of a machine.
+use mathlib.Core.Bool.{not}
+use mathlib.Core.List.{List}
 use Prim.Native.Nat.{ℕ, _+_, _-_, _*_, _/_, _≤_, _<_}
+use lib.Dec.{eqb}
 use lib.ListN.{getD}
 use Rattle.numbers.specs.Lowest.{lowestOr}
 use Rattle.units.specs.Bounds.{MOST-START}
@@ -8,13 +11,25 @@ use Rattle.units.specs.declared.Tick.{Tick}
 use Rattle.units.specs.Ticks.{tick, greaterTick}
 use Rattle.terms.specs.Place.{placeOf}
 use Rattle.tables.specs.declared.Table.{Table}
+use Rattle.tables.specs.Shape.{modeAt}
 use Rattle.planning.specs.declared.Plan.{Plan}
-use Rattle.planning.specs.Plan.{changeAt}
+use Rattle.planning.specs.Plan.{partAt, changeAt}
+use Rattle.layout.specs.declared.load.Pace.{Pace}
+use Rattle.planner.specs.Plans.{Leaves}
 use Rattle.machine.specs.Plan.{isListed, partOf}
 use Rattle.machine.specs.declared.Machine.{Machine}
 use Rattle.machine.specs.declared.Course.{Course}
 use Rattle.machine.specs.declared.Reply.the-variants.{Accepted}
 use Rattle.machine.specs.declared.Answer.{Answer}
+
+-- of every table and plan that leave the words
+abbrev pub Tells : List ℕ → (Table → Plan → Type 0) → Type 0
+Tells words P = (t : Table) (w : Plan) → Leaves t w words → P t w
+
+-- what a machine needs of the mode at place k
+abbrev pub paceIn : Table → Plan → ℕ → Pace
+paceIn t w k =
+    record { listed = not (eqb (modeAt t k .active) 0); iteration = partAt w k .iteration; «sink_start» = getD (partAt w k .starts) (partAt w k .sink) (tick 0) }
 
 -- the lowest number of a listed mode; 0 where there is none
 abbrev pub lowestOf : Table → ℕ

@@ -3,8 +3,7 @@ mod modes;
 
 use modes::listed;
 use modes::lowest;
-use planner::recall;
-use terms::place::place_of;
+use planner::is_plan;
 use terms::refusal::NO_MACHINE;
 use terms::refusal::NO_MODE;
 use terms::refusal::NO_PLAN;
@@ -63,19 +62,14 @@ fn refusal(number: u64) -> Refusal
 pub fn start(words: &[u64], mode: u64) -> Beginning
     ensures { λ r. ⌜ Begins (now (words .entry)) mode r ⌝ }
 {
-    let recalled = recall(words);
-    if !recalled.good {
+    if !is_plan(words) {
         return Beginning::Refused(refusal(NO_PLAN));
     }
-    let table = recalled.table;
-    let plan = recalled.plan;
-    let chosen = if mode == 0 { lowest(table) } else { mode };
-    if !listed(table, chosen) {
+    let chosen = if mode == 0 { lowest(words) } else { mode };
+    if !listed(words, chosen) {
         return Beginning::Refused(refusal(NO_MODE));
     }
-    let place = place_of(chosen);
-    let part = plan.parts[place];
-    let ended = part.startup;
+    let ended = modes::startup_of(words, chosen);
     Beginning::Begun(Machine {
         mode: chosen,
         started: Tick::NONE,
@@ -123,13 +117,10 @@ impl Machine {
     pub fn request(self, words: &[u64], mode: u64, clock: Tick) -> Answer
         ensures { λ r. ⌜ Answers (now (words .entry)) self mode clock r ⌝ }
     {
-        let recalled = recall(words);
-        if !recalled.good {
+        if !is_plan(words) {
             return self.refuse(NO_PLAN);
         }
-        let table = recalled.table;
-        let plan = recalled.plan;
-        if !listed(table, self.mode) {
+        if !listed(words, self.mode) {
             return self.refuse(NO_MACHINE);
         }
         let started = self.started;
@@ -137,7 +128,7 @@ impl Machine {
         if !started.at_most(ended) {
             return self.refuse(NO_MACHINE);
         }
-        if !listed(table, mode) {
+        if !listed(words, mode) {
             return self.refuse(NO_MODE);
         }
         if mode == self.mode {
@@ -149,6 +140,6 @@ impl Machine {
         if !ended.at_most(clock) {
             return self.refuse(UNENDED);
         }
-        self.change(modes::course(plan, self.mode, mode), mode, clock)
+        self.change(modes::course(words, self.mode, mode), mode, clock)
     }
 }

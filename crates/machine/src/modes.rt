@@ -1,23 +1,37 @@
-// The modes of a plan, by their numbers.
+// The modes of a plan, by their numbers, as its words hold them.
 use crate::Course;
-use planning::ModePlan;
-use planning::Plan;
-use tables::Table;
+use layout::MODE_WORDS;
+use layout::MODES_END;
+use layout::WORDS;
+use layout::load::Pace;
+use layout::load::offset_of;
+use layout::load::pace_of;
 use terms::place::number_of;
 use terms::place::place_of;
 use units::Tick;
 use units::limits::MODES;
 ghost use mathlib.Core.Path.{_≡_};
 ghost use Prim.Native.Nat.{_≤_, _<_};
-ghost use lib.ListN.{getD};
-ghost use Rattle.units.specs.Limits.{MODES, ACTORS};
-ghost use Rattle.units.specs.Ticks.{tick};
+ghost use Rattle.units.specs.Limits.{MODES};
+ghost use Rattle.planning.specs.Plan.{changeAt};
+ghost use Rattle.planner.specs.Plans.{Stored};
 ghost use Rattle.machine.specs.Plan.{partOf, isListed};
-ghost use Rattle.machine.specs.Steps.{lowestOf, courseOf};
+ghost use Rattle.machine.specs.Steps.{Tells, paceIn, lowestOf, courseOf};
+
+// The pace of the mode at a place.
+fn pace_at(words: &[u64], place: usize) -> Pace
+    requires { ⌜ Stored (now words) × (place < MODES) ⌝ }
+    ensures { λ r. ⌜ Tells (now (words .entry)) (λ t w. r ≡ paceIn t w place) ⌝ }
+{
+    let a = MODE_WORDS * place;
+    let e = a + MODE_WORDS;
+    pace_of(&words[a..e])
+}
 
 // Whether the mode is in the plan.
-pub(crate) fn listed(table: Table, mode: u64) -> bool
-    ensures { λ r. ⌜ r ≡ isListed table mode ⌝ }
+pub(crate) fn listed(words: &[u64], mode: u64) -> bool
+    requires { ⌜ Stored (now words) ⌝ }
+    ensures { λ r. ⌜ Tells (now (words .entry)) (λ t w. r ≡ isListed t mode) ⌝ }
 {
     if mode == 0 {
         return false;
@@ -25,54 +39,58 @@ pub(crate) fn listed(table: Table, mode: u64) -> bool
     if mode > MODES as u64 {
         return false;
     }
-    let place = place_of(mode);
-    let at = table.modes[place];
-    at.active != 0
+    let pace = pace_at(words, place_of(mode));
+    pace.listed
 }
 
 // The lowest mode of the plan.
-pub(crate) fn lowest(table: Table) -> u64
-    ensures { λ r. ⌜ r ≡ lowestOf table ⌝ }
+pub(crate) fn lowest(words: &[u64]) -> u64
+    requires { ⌜ Stored (now words) ⌝ }
+    ensures { λ r. ⌜ Tells (now (words .entry)) (λ t w. r ≡ lowestOf t) ⌝ }
 {
     for k in 0..MODES {
-        let mode = table.modes[k];
-        if mode.active != 0 {
+        let pace = pace_at(words, k);
+        if pace.listed {
             return number_of(k);
         }
     }
     0
 }
 
-// The tick set for the first firing of a mode's sink.
-fn sink_start(part: ModePlan) -> Tick
-    requires { ⌜ part .sink < ACTORS ⌝ }
-    ensures { λ r. ⌜ r ≡ getD (part .starts) (part .sink) (tick 0) ⌝ }
+// The tick at which a mode's start-up ends: the one set for the first firing of its sink.
+pub(crate) fn startup_of(words: &[u64], mode: u64) -> Tick
+    requires { ⌜ Stored (now words) × (1 ≤ mode) × (mode ≤ MODES) ⌝ }
+    ensures { λ r. ⌜ Tells (now (words .entry)) (λ t w. r ≡ partOf w mode .startup) ⌝ }
 {
-    let starts = part.starts;
-    let sink = part.sink;
-    starts[sink]
+    let pace = pace_at(words, place_of(mode));
+    pace.sink_start
+}
+
+// The offset of the change from the mode at one place to the mode at another.
+fn offset_at(words: &[u64], from: usize, to: usize) -> Tick
+    requires { ⌜ Stored (now words) × (from < MODES) × (to < MODES) ⌝ }
+    ensures { λ r. ⌜ Tells (now (words .entry)) (λ t w. r ≡ changeAt w from to .offset) ⌝ }
+{
+    offset_of(&words[MODES_END..WORDS], MODES * from + to)
 }
 
 // The ticks of the change from one mode to another.
-pub(crate) fn course(plan: Plan, old: u64, new: u64) -> Course
-    requires { ⌜ (1 ≤ old) × (old ≤ MODES) × (1 ≤ new) × (new ≤ MODES) × (partOf plan new .sink < ACTORS) ⌝ }
-    ensures { λ r. ⌜ r ≡ courseOf plan old new ⌝ }
+pub(crate) fn course(words: &[u64], old: u64, new: u64) -> Course
+    requires { ⌜ Stored (now words) × (1 ≤ old) × (old ≤ MODES) × (1 ≤ new) × (new ≤ MODES) ⌝ }
+    ensures { λ r. ⌜ Tells (now (words .entry)) (λ t w. r ≡ courseOf w old new) ⌝ }
 {
     let from = place_of(old);
     let to = place_of(new);
-    let left = plan.parts[from];
-    let entered = plan.parts[to];
-    let timing = plan.changes[MODES * from + to];
+    let left = pace_at(words, from);
+    let entered = pace_at(words, to);
     let iteration = left.iteration;
-    let before = left.startup;
-    let after = entered.startup;
-    let sink = sink_start(entered);
-    let offset = timing.offset;
+    let before = left.sink_start;
+    let after = entered.sink_start;
     Course {
         iteration,
         old: before,
         new: after,
-        sink,
-        offset,
+        sink: after,
+        offset: offset_at(words, from, to),
     }
 }
