@@ -1,4 +1,4 @@
--- Model of the code: single blocks of the words, by themselves.
+-- Single blocks of the words, by themselves.
 use mathlib.Core.List.{List, []}
 use mathlib.Core.Bool.{not}
 use Prim.Native.Nat.{ℕ, _+_, _*_}

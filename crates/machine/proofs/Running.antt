@@ -26,7 +26,7 @@ use Rattle.schedule.proofs.Modelled.{ready}
 use Rattle.change.specs.Work.{firingsAt, tickAt}
 use Rattle.change.specs.Running.{Ready}
 use Rattle.planning.specs.declared.ModePlan.{ModePlan}
-use Rattle.planning.specs.Steps.{runningOf}
+use Rattle.planning.specs.Changes.{runningOf}
 use Rattle.planning.specs.Plan.{ModePlanned}
 use Rattle.planning.proofs.Told.{judgementOf, planned-judged}
 use Rattle.planning.proofs.Bounds.{SmallPart, mode-small}

@@ -15,7 +15,7 @@ use Rattle.tables.specs.Grown.{empty-proper}
 use Rattle.planning.specs.declared.ModePlan.{ModePlan}
 use Rattle.planning.specs.Nothing.{emptyPart}
 use Rattle.planning.specs.Plan.{ModePlanned}
-use Rattle.planning.specs.Steps.{idleRunning}
+use Rattle.planning.specs.Changes.{idleRunning}
 use Rattle.layout.specs.Joined.{joined}
 use Rattle.layout.specs.Words.{MODE-WORDS, modeWords}
 use Rattle.layout.specs.Read.{modeOf}

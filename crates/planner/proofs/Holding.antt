@@ -23,7 +23,8 @@ use Rattle.planning.specs.declared.ModePlan.{ModePlan}
 use Rattle.planning.specs.declared.Plan.{Plan}
 use Rattle.planning.specs.Nothing.{noPart, emptyPart}
 use Rattle.planning.specs.Plan.{partAt, Listed, ModePlanned, IsPart, Planned}
-use Rattle.planning.specs.Steps.{noRunning, idleRunning, runningOf, runningsOf, AllReady, FoundParts, FoundChanges}
+use Rattle.planning.specs.Changes.{noRunning, idleRunning, runningOf, AllReady, FoundChanges}
+use Rattle.planning.specs.Steps.{runningsOf, FoundParts}
 use Rattle.planning.proofs.Running.{listed-some, listed-none, all-ready}
 use Rattle.planning.proofs.Coming.{plan-comes}
 use Rattle.planning.proofs.Unique.{plan-unique}

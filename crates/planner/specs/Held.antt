@@ -8,7 +8,7 @@ use Rattle.change.specs.declared.Running.{Running}
 use Rattle.planning.specs.declared.ModePlan.{ModePlan}
 use Rattle.planning.specs.Nothing.{emptyPart}
 use Rattle.planning.specs.Plan.{ModePlanned}
-use Rattle.planning.specs.Steps.{idleRunning, runningOf}
+use Rattle.planning.specs.Changes.{idleRunning, runningOf}
 use Rattle.layout.specs.Joined.{part}
 use Rattle.layout.specs.Words.{MODE-WORDS, modeWords}
 use Rattle.layout.specs.Read.{modeOf}

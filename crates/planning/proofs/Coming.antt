@@ -21,7 +21,8 @@ use Rattle.planning.specs.declared.Answer.the-variants.{Planned as IsPla
 use Rattle.planning.specs.Nothing.{noPart}
 use Rattle.planning.specs.Plan.{changeAt, Listed, IsPart, IsChange, Planned}
 use Rattle.planning.specs.OneMode.{Comes}
-use Rattle.planning.specs.Steps.{AnyComes, AllCome, noRunning, runningAt, runningsOf, Between, FoundParts, FoundChanges, runningOf}
+use Rattle.planning.specs.Changes.{noRunning, runningAt, Between, FoundChanges, runningOf}
+use Rattle.planning.specs.Steps.{AnyComes, AllCome, runningsOf, FoundParts}
 use Rattle.planning.proofs.Running.{listed-some, listed-none}
 
 -- a mode that has an actor

@@ -34,7 +34,8 @@ use Rattle.planning.specs.declared.Answer.{Answer}
 use Rattle.planning.specs.declared.Answer.the-variants.{Planned as IsPlanned, Refused as IsRefused}
 use Rattle.planning.specs.Nothing.{noTiming, emptyPart}
 use Rattle.planning.specs.Plan.{ModeRefused, ModePlanned}
-use Rattle.planning.specs.Steps.{partFrom, AnyComes, runningAt, AllReady, Between, ChangeOf, FoundChanges}
+use Rattle.planning.specs.Changes.{runningAt, AllReady, Between, ChangeOf, FoundChanges}
+use Rattle.planning.specs.Steps.{partFrom, AnyComes}
 use Rattle.planning.proofs.Told.{judged-refuses, scheduled-refuses, scheduled-planned}
 
 -- the answer to the mode with number n, by its verdict and by its timing

@@ -37,7 +37,8 @@ use Rattle.change.specs.Running.{timesIn, Ready}
 use Rattle.planning.specs.declared.ModePlan.{ModePlan}
 use Rattle.planning.specs.Nothing.{noPart}
 use Rattle.planning.specs.Plan.{Listed, ModePlanned, IsPart, timesOf}
-use Rattle.planning.specs.Steps.{noRunning, idleRunning, runningsOf, AllReady, FoundParts, runningOf}
+use Rattle.planning.specs.Changes.{noRunning, idleRunning, AllReady, runningOf}
+use Rattle.planning.specs.Steps.{runningsOf, FoundParts}
 use Rattle.planning.proofs.Bounds.{mode-small}
 
 -- a mode with an actor is listed

@@ -43,7 +43,8 @@ use Rattle.planning.specs.declared.Outcome.{Outcome}
 use Rattle.planning.specs.Nothing.{noPart, noTiming, emptyPlan}
 use Rattle.planning.specs.Plan.{changeAt, Listed, periodsOf, Balanced, ModeRefused, by-6, by-7, by-8, by-9, by-10, ModePlanned, IsPart, timesOf, Leads, IsChange, Planned, Planning, refused, planned}
 use Rattle.planning.specs.OneMode.{Comes}
-use Rattle.planning.specs.Steps.{partFrom, runningAt, Between, FoundChanges}
+use Rattle.planning.specs.Changes.{runningAt, Between, FoundChanges}
+use Rattle.planning.specs.Steps.{partFrom}
 use Rattle.planning.proofs.Told.{unbalanced-not, judgementOf, timetableOf, planned-scheduled}
 
 module _ {m : Mode} where

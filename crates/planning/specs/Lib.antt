@@ -3,4 +3,5 @@ pub mod Nothing
 pub mod Plan
 pub mod Numbers
 pub mod OneMode
+pub mod Changes
 pub mod Steps

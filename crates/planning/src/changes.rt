@@ -19,7 +19,8 @@ ghost use Rattle.tables.specs.Proper.{ProperMode, ProperTable};
 ghost use Rattle.change.specs.Running.{Ready};
 ghost use Rattle.planning.specs.Nothing.{noTiming};
 ghost use Rattle.planning.specs.Plan.{ModePlanned};
-ghost use Rattle.planning.specs.Steps.{runningOf, idleRunning, runningsOf, AllReady, Between, FoundParts, FoundChanges};
+ghost use Rattle.planning.specs.Changes.{runningOf, idleRunning, AllReady, Between, FoundChanges};
+ghost use Rattle.planning.specs.Steps.{runningsOf, FoundParts};
 
 // No change.
 pub(crate) fn none() -> Timing

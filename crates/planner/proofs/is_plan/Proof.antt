@@ -14,7 +14,7 @@ use Rattle.numbers.specs.Filled.{Filled, filled-none, filled-set}
 use Rattle.units.specs.Limits.{MODES, ACTORS}
 use Rattle.tables.specs.Proper.{ProperTable}
 use Rattle.tables.proofs.Housing.{Housed, housed-none, housed-decides}
-use Rattle.planning.specs.Steps.{noRunning, idleRunning}
+use Rattle.planning.specs.Changes.{noRunning, idleRunning}
 use Rattle.layout.specs.Read.{graphOf}
 use Rattle.planner.specs.Held.{HeldAt}
 use Rattle.planner.proofs.Leaving.{stored-held, leaves-proper, leaves-long}

@@ -7,7 +7,8 @@ use Rattle.units.specs.Limits.{MODES}
 use Rattle.change.specs.declared.Running.{Running}
 use Rattle.planning.specs.declared.Answer.{Answer}
 use Rattle.planning.specs.Plan.{Planning, refused, planned}
-use Rattle.planning.specs.Steps.{AllCome, AllReady, FoundParts, FoundChanges}
+use Rattle.planning.specs.Changes.{AllReady, FoundChanges}
+use Rattle.planning.specs.Steps.{AllCome, FoundParts}
 use Rattle.planning.proofs.Running.{all-ready}
 use Rattle.planning.proofs.Coming.{plan-comes}
 use Rattle.planning.proofs.plan_of.Statement.{statement}

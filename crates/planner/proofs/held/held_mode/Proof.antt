@@ -14,7 +14,7 @@ use Rattle.planning.specs.declared.ModePlan.{ModePlan}
 use Rattle.planning.specs.declared.Answer.{Answer}
 use Rattle.planning.specs.OneMode.{Comes}
 use Rattle.planning.specs.Plan.{ModePlanned}
-use Rattle.planning.specs.Steps.{runningOf}
+use Rattle.planning.specs.Changes.{runningOf}
 use Rattle.planning.proofs.Unique.{part-unique, planned-refused}
 use Rattle.layout.specs.Words.{MODE-WORDS, modeWords}
 use Rattle.layout.specs.Read.{modeOf}

@@ -6,7 +6,7 @@ use native.Mathlib.Omega.{arith}
 use Rattle.numbers.specs.Filled.{filled-none, filled-set}
 use Rattle.units.specs.Limits.{MODES}
 use Rattle.planning.specs.Nothing.{noTiming}
-use Rattle.planning.specs.Steps.{FoundChanges}
+use Rattle.planning.specs.Changes.{FoundChanges}
 use Rattle.planning.proofs.changes.changes_of.Statement.{statement}
 use Rattle.planning.proofs.changes.changes_of.Tie as tie
 

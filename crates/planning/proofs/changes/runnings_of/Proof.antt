@@ -8,7 +8,7 @@ use Rattle.numbers.specs.Filled.{FilledBy, filled-none, filled-set, filled-left
 use Rattle.units.specs.Limits.{MODES}
 use Rattle.tables.specs.Shape.{modeAt}
 use Rattle.planning.specs.Nothing.{noPart}
-use Rattle.planning.specs.Steps.{idleRunning, runningOf}
+use Rattle.planning.specs.Changes.{idleRunning, runningOf}
 use Rattle.planning.proofs.Running.{listed-some, part-idle}
 use Rattle.planning.proofs.changes.runnings_of.Statement.{statement}
 use Rattle.planning.proofs.changes.runnings_of.Tie as tie
