@@ -84,13 +84,12 @@ pub(crate) fn course(words: &[u64], old: u64, new: u64) -> Course
     let left = pace_at(words, from);
     let entered = pace_at(words, to);
     let iteration = left.iteration;
-    let before = left.sink_start;
-    let after = entered.sink_start;
+    let sink = entered.sink_start;
     Course {
         iteration,
-        old: before,
-        new: after,
-        sink: after,
+        old: startup_of(words, old),
+        new: startup_of(words, new),
+        sink,
         offset: offset_at(words, from, to),
     }
 }
