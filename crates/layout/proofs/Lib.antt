@@ -1,3 +1,2 @@
 -- What the proofs lean on.
-pub mod Laid
 mod Settled

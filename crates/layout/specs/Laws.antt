@@ -22,7 +22,7 @@ use Rattle.tables.specs.Proper.{ProperMode, ProperTable}
 use Rattle.planning.specs.declared.ModePlan.{ModePlan}
 use Rattle.planning.specs.declared.Plan.{Plan}
 use Rattle.planning.specs.Plan.{partAt}
-use Rattle.layout.specs.Joined.{joined, stretch, part, length-joined, part-joined, joined-part, getD-part}
+use Rattle.numbers.specs.Joined.{joined, stretch, part, length-joined, part-joined, joined-part, getD-part}
 use Rattle.layout.specs.Words.{CHANGES, HEAD-WORDS, ACTOR-WORDS, CHANNEL-WORDS, MODE-WORDS, CHANGE-WORDS, WORDS, timingAt, headWords, rateWords, channelWords, actorWordsAt, channelWordsAt, modeWords, modeWordsAt, changeWordsAt, modesWords, changesWords, wordsOf}
 use Rattle.layout.specs.Blocks.{paceOf}
 use Rattle.layout.specs.Read.{actorOf, ratesOf, channelOf, actorsOf, channelsOf, modeOf, graphOf}

@@ -1,5 +1,4 @@
 -- The words of a plan, and the table that is read from them.
-pub mod Joined
 pub mod Words
 pub mod Blocks
 pub mod Read

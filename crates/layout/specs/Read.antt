@@ -9,7 +9,7 @@ use Rattle.tables.specs.declared.Actor.{Actor}
 use Rattle.tables.specs.declared.Channel.{Channel}
 use Rattle.tables.specs.declared.Mode.{Mode}
 use Rattle.tables.specs.declared.Table.{Table}
-use Rattle.layout.specs.Joined.{stretch, part}
+use Rattle.numbers.specs.Joined.{stretch, part}
 use Rattle.layout.specs.Words.{HEAD-WORDS, ACTOR-WORDS, CHANNEL-WORDS, MODE-WORDS}
 
 abbrev pub actorOf : List ℕ → Actor

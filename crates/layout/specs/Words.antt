@@ -20,7 +20,7 @@ use Rattle.planning.specs.declared.ModePlan.{ModePlan}
 use Rattle.planning.specs.declared.Plan.{Plan}
 use Rattle.planning.specs.Nothing.{noTiming}
 use Rattle.planning.specs.Plan.{partAt}
-use Rattle.layout.specs.Joined.{joined}
+use Rattle.numbers.specs.Joined.{joined}
 
 -- the number of ordered pairs of modes
 abbrev pub CHANGES : ℕ

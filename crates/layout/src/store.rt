@@ -17,7 +17,7 @@ ghost use mathlib.Core.Path.{_≡_};
 ghost use Prim.Native.Nat.{_*_};
 ghost use lib.ListN.{length};
 ghost use Rattle.units.specs.Limits.{MODES, ACTORS, CHANNELS, PHASES};
-ghost use Rattle.layout.specs.Joined.{joined};
+ghost use Rattle.numbers.specs.Joined.{joined};
 ghost use Rattle.layout.specs.Blocks.{timedBy};
 ghost use Rattle.layout.specs.Words.{CHANGES, HEAD-WORDS, ACTOR-WORDS, CHANNEL-WORDS, MODE-WORDS, CHANGE-WORDS, headWords, actorWords, rateWords, channelWords, actorWordsAt, channelWordsAt, modeWords, changeWords, modesWords, changesWords};
 

@@ -21,8 +21,8 @@ use Rattle.planning.proofs.Unique.{listed-or-not}
 use Rattle.layout.specs.Words.{CHANGES, MODE-WORDS, CHANGE-WORDS, WORDS, modeWords, modeWordsAt, changesWords}
 use Rattle.layout.specs.Blocks.{paceOf}
 use Rattle.layout.specs.Laws.{part-words, changes-words, pace-words, offset-words, length-changes}
-use Rattle.layout.proofs.Laid.{part-is}
-use Rattle.layout.specs.Joined.{part}
+use Rattle.numbers.proofs.Laid.{part-is}
+use Rattle.numbers.specs.Joined.{part}
 use Rattle.planner.specs.Plans.{Stored, Leaves}
 use Rattle.planner.proofs.Leaving.{stored-leaves, leaves-proper, leaves-long}
 use Rattle.machine.specs.Steps.{paceIn}

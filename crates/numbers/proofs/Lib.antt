@@ -1,3 +1,4 @@
 -- What belongs to no one function.
+pub mod Laid
 pub mod Settles
 mod Settled

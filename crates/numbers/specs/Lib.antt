@@ -4,6 +4,7 @@ pub mod Decides
 pub mod Every
 pub mod All
 pub mod Tab
+pub mod Joined
 pub mod Digits
 pub mod Filled
 pub mod Padded

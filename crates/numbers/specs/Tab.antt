@@ -1,12 +1,15 @@
 -- Lists by their elements.
 use mathlib.Core.Path.{_≡_, refl, sym, ap, ap₂, _∙_}
+use mathlib.Core.Bool.{cond}
 use mathlib.Core.List.{List, [], _∷_}
 use Prim.Native.Nat.{ℕ, zero, suc, _+_, _<_, suc-le-suc}
 use native.Mathlib.Nat.{le-of-suc-le-suc, not-suc-le-zero, zero-lt-suc}
 use native.Mathlib.Omega.{arith}
+use lib.Dec.{eqb}
 use lib.ListN.{length, getD, set, replicate}
 use lib.Seq.{getD-set-same, getD-set-other, ext-getD}
 use borrow.Author.Count.{below-more}
+use borrow.Author.Tests.{eq-eqb, ne-eqb}
 
 module _ {A : Type 0} where
   -- f 0, f 1, .. f (n - 1)
@@ -56,3 +59,13 @@ module _ {A : Type 0} where
   getD-replicated zero i a = refl
   getD-replicated (suc n) zero a = refl
   getD-replicated (suc n) (suc i) a = getD-replicated n i a
+
+  -- f, but v at place i
+  abbrev pub placing : ℕ → A → (ℕ → A) → ℕ → A
+  placing i v f j = cond (eqb j i) v (f j)
+
+  pub placing-there : (i : ℕ) (v : A) (f : ℕ → A) → placing i v f i ≡ v
+  placing-there i v f = rw (eq-eqb i i refl)
+
+  pub placing-aside : (i j : ℕ) (v : A) (f : ℕ → A) → (j ≡ i → ⊥) → placing i v f j ≡ f j
+  placing-aside i j v f n = rw (ne-eqb j i n)

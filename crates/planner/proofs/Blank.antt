@@ -16,7 +16,7 @@ use Rattle.planning.specs.declared.ModePlan.{ModePlan}
 use Rattle.planning.specs.Nothing.{emptyPart}
 use Rattle.planning.specs.Plan.{ModePlanned}
 use Rattle.planning.specs.Changes.{idleRunning}
-use Rattle.layout.specs.Joined.{joined}
+use Rattle.numbers.specs.Joined.{joined}
 use Rattle.layout.specs.Words.{MODE-WORDS, modeWords}
 use Rattle.layout.specs.Read.{modeOf}
 use Rattle.layout.specs.Laws.{mode-back}

@@ -28,12 +28,12 @@ use Rattle.planning.specs.Steps.{runningsOf, FoundParts}
 use Rattle.planning.proofs.Running.{listed-some, listed-none, all-ready}
 use Rattle.planning.proofs.Coming.{plan-comes}
 use Rattle.planning.proofs.Unique.{plan-unique}
-use Rattle.layout.specs.Joined.{part}
+use Rattle.numbers.specs.Joined.{part}
 use Rattle.layout.specs.Words.{CHANGES, MODE-WORDS, CHANGE-WORDS, WORDS, modeWords, modeWordsAt, modesWords, changesWords, wordsOf}
 use Rattle.layout.specs.Blocks.{timedBy}
 use Rattle.layout.specs.Read.{modeOf, graphOf}
 use Rattle.layout.specs.Laws.{part-words, length-modes, length-changes}
-use Rattle.layout.proofs.Laid.{part-is, two-parts, parts-joined}
+use Rattle.numbers.proofs.Laid.{part-is, two-parts, parts-joined}
 use Rattle.planner.specs.Plans.{Stored, Leaves}
 use Rattle.planner.specs.Held.{Means, HoldsMode, HeldAt}
 use Rattle.planner.proofs.Leaving.{leaves-stored, stored-held, leaves-proper, holds-leaves}

@@ -9,7 +9,7 @@ use Rattle.planning.specs.declared.ModePlan.{ModePlan}
 use Rattle.planning.specs.Nothing.{emptyPart}
 use Rattle.planning.specs.Plan.{ModePlanned}
 use Rattle.planning.specs.Changes.{idleRunning, runningOf}
-use Rattle.layout.specs.Joined.{part}
+use Rattle.numbers.specs.Joined.{part}
 use Rattle.layout.specs.Words.{MODE-WORDS, modeWords}
 use Rattle.layout.specs.Read.{modeOf}
 use Rattle.planner.specs.declared.held.Held.{Held}

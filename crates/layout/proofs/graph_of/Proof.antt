@@ -10,10 +10,10 @@ use Rattle.units.specs.Limits.{MODES}
 use Rattle.tables.specs.declared.Mode.{Mode}
 use Rattle.tables.specs.declared.Table.{Table}
 use Rattle.tables.specs.Shape.{emptyMode}
-use Rattle.layout.specs.Joined.{part}
+use Rattle.numbers.specs.Joined.{part}
 use Rattle.layout.specs.Words.{MODE-WORDS}
 use Rattle.layout.specs.Read.{modeOf, graphOf}
-use Rattle.layout.proofs.Laid.{part-is}
+use Rattle.numbers.proofs.Laid.{part-is}
 use Rattle.layout.proofs.graph_of.Statement.{statement}
 use Rattle.layout.proofs.graph_of.Tie as tie
 

@@ -10,7 +10,7 @@ use Rattle.numbers.specs.Decides.{decides-no, decides-true, decides-false}
 use Rattle.units.specs.Limits.{MODES}
 use Rattle.layout.specs.Words.{wordsOf, modesWords, changesWords, MODE-WORDS, CHANGE-WORDS, CHANGES}
 use Rattle.layout.specs.Laws.{length-modes, length-changes, length-words}
-use Rattle.layout.proofs.Laid.{two-parts}
+use Rattle.numbers.proofs.Laid.{two-parts}
 use Rattle.layout.proofs.holds.Statement.{statement}
 use Rattle.layout.proofs.holds.Tie as tie
 

@@ -8,7 +8,7 @@ use lib.ListN.{length-map}
 use Rattle.units.specs.Limits.{MODES}
 use Rattle.layout.specs.Words.{wordsOf, MODE-WORDS, CHANGE-WORDS, CHANGES}
 use Rattle.layout.specs.Laws.{length-modes, length-changes, length-words}
-use Rattle.layout.proofs.Laid.{laid-none, laid-put, laid-all}
+use Rattle.numbers.proofs.Laid.{laid-none, laid-put, laid-all}
 use Rattle.layout.proofs.write.Statement.{statement}
 use Rattle.layout.proofs.write.Tie as tie
 

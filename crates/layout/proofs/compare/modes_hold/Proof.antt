@@ -7,10 +7,10 @@ use denote.Ref.{now}
 use lib.ListN.{length-take, length-drop}
 use Rattle.numbers.specs.Decides.{decides-yes, decides-no, decides-true, decides-false}
 use Rattle.units.specs.Limits.{MODES}
-use Rattle.layout.specs.Joined.{part, joined-part}
+use Rattle.numbers.specs.Joined.{part, joined-part}
 use Rattle.layout.specs.Words.{MODE-WORDS, modeWordsAt}
 use Rattle.layout.specs.Laws.{length-mode-at}
-use Rattle.layout.proofs.Laid.{Begun, begun-none, begun-same, begun-all, part-is}
+use Rattle.numbers.proofs.Laid.{Begun, begun-none, begun-same, begun-all, part-is}
 use Rattle.layout.proofs.compare.modes_hold.Statement.{statement}
 use Rattle.layout.proofs.compare.modes_hold.Tie as tie
 

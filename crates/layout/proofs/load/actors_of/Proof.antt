@@ -7,10 +7,10 @@ use lib.ListN.{length-take, length-drop}
 use Rattle.numbers.specs.Filled.{FilledBy, filled-none, filled-set, filled-all}
 use Rattle.units.specs.Limits.{ACTORS}
 use Rattle.tables.specs.Shape.{noActor}
-use Rattle.layout.specs.Joined.{part}
+use Rattle.numbers.specs.Joined.{part}
 use Rattle.layout.specs.Words.{ACTOR-WORDS}
 use Rattle.layout.specs.Read.{actorOf}
-use Rattle.layout.proofs.Laid.{part-is}
+use Rattle.numbers.proofs.Laid.{part-is}
 use Rattle.layout.proofs.load.actors_of.Statement.{statement}
 use Rattle.layout.proofs.load.actors_of.Tie as tie
 

@@ -6,7 +6,7 @@ use native.Mathlib.Omega.{arith}
 use lib.ListN.{length-take, length-drop}
 use Rattle.units.specs.Limits.{ACTORS}
 use Rattle.layout.specs.Words.{ACTOR-WORDS, actorWordsAt}
-use Rattle.layout.proofs.Laid.{Begun, begun-none, begun-put, begun-all}
+use Rattle.numbers.proofs.Laid.{Begun, begun-none, begun-put, begun-all}
 use Rattle.layout.proofs.store.put_actors.Statement.{statement}
 use Rattle.layout.proofs.store.put_actors.Tie as tie
 

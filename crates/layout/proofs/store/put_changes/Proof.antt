@@ -6,7 +6,7 @@ use native.Mathlib.Omega.{arith}
 use lib.ListN.{length-take, length-drop}
 use Rattle.layout.specs.Blocks.{timedBy}
 use Rattle.layout.specs.Words.{CHANGES, CHANGE-WORDS, changeWordsAt}
-use Rattle.layout.proofs.Laid.{Begun, begun-none, begun-put, begun-all}
+use Rattle.numbers.proofs.Laid.{Begun, begun-none, begun-put, begun-all}
 use Rattle.layout.proofs.store.put_changes.Statement.{statement}
 use Rattle.layout.proofs.store.put_changes.Tie as tie
 

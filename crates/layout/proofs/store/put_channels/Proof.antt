@@ -6,7 +6,7 @@ use lib.ListN.{length-take, length-drop}
 use Rattle.units.specs.Limits.{CHANNELS}
 use Rattle.layout.specs.Words.{CHANNEL-WORDS, channelWordsAt}
 use Rattle.layout.specs.Laws.{length-channel-at}
-use Rattle.layout.proofs.Laid.{Begun, begun-none, begun-put, begun-all}
+use Rattle.numbers.proofs.Laid.{Begun, begun-none, begun-put, begun-all}
 use Rattle.layout.proofs.store.put_channels.Statement.{statement}
 use Rattle.layout.proofs.store.put_channels.Tie as tie
 

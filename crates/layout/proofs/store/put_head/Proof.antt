@@ -4,7 +4,7 @@ use native.Mathlib.Omega.{arith}
 use denote.Ref.{now}
 use lib.ListN.{length-set}
 use Rattle.layout.specs.Words.{headWords}
-use Rattle.layout.proofs.Laid.{stored}
+use Rattle.numbers.proofs.Laid.{stored}
 use Rattle.layout.proofs.store.put_head.Statement.{statement}
 use Rattle.layout.proofs.store.put_head.Tie as tie
 

@@ -6,10 +6,10 @@ use native.Mathlib.Omega.{arith}
 use denote.Ref.{now}
 use lib.ListN.{length-append}
 use Rattle.units.specs.Limits.{ACTORS, CHANNELS}
-use Rattle.layout.specs.Joined.{joined}
+use Rattle.numbers.specs.Joined.{joined}
 use Rattle.layout.specs.Words.{HEAD-WORDS, headWords, actorWordsAt, modeWords, ACTOR-WORDS, CHANNEL-WORDS}
 use Rattle.layout.specs.Laws.{length-actors, length-channels, length-mode}
-use Rattle.layout.proofs.Laid.{laid-none, laid-put, laid-all}
+use Rattle.numbers.proofs.Laid.{laid-none, laid-put, laid-all}
 use Rattle.layout.proofs.store.put_mode.Statement.{statement}
 use Rattle.layout.proofs.store.put_mode.Tie as tie
 

@@ -6,7 +6,7 @@ use lib.ListN.{length-take, length-drop}
 use Rattle.units.specs.Limits.{MODES}
 use Rattle.layout.specs.Words.{MODE-WORDS, modeWordsAt}
 use Rattle.layout.specs.Laws.{length-mode-at}
-use Rattle.layout.proofs.Laid.{Begun, begun-none, begun-put, begun-all}
+use Rattle.numbers.proofs.Laid.{Begun, begun-none, begun-put, begun-all}
 use Rattle.layout.proofs.store.put_modes.Statement.{statement}
 use Rattle.layout.proofs.store.put_modes.Tie as tie
 

@@ -1,14 +1,14 @@
 -- A list that is filled, or found to be filled, from the front.
 use mathlib.Core.Path.{_≡_, refl, sym, ap, ap₂, subst, _∙_}
 use mathlib.Core.List.{List, [], _++_, append-assoc, append-nil}
-use mathlib.Core.Logic.{_↔_}
+use mathlib.Core.Logic.{_↔_, _⊎_, inl, inr}
 use Prim.Native.Nat.{ℕ, zero, suc, _+_, _-_, _*_, _≤_, _<_}
-use native.Mathlib.Nat.{mul-zero, mul-suc, mul-le-mul-left, le-of-eq}
+use native.Mathlib.Nat.{mul-zero, mul-suc, mul-le-mul-left, le-of-eq, le-of-suc-le-suc, not-suc-le-zero, eq-or-lt-of-le}
 use native.Mathlib.Omega.{arith}
 use lib.ListN.{length, take, drop, length-append, length-take, length-drop, drop-of-length-le}
-use lib.Seq.{take-at, drop-at, take-all, take-add, sets, sets-eq}
+use lib.Seq.{take-at, drop-at, take-all, take-append-le, drop-append-le, take-append-add, drop-append-add, take-add, sets, sets-eq}
 use borrow.Rule.Slice.PartMut.{putMid}
-use Rattle.layout.specs.Joined.{joined, part, joined-next, length-joined}
+use Rattle.numbers.specs.Joined.{joined, part, joined-next, joined-same, length-joined}
 
 -- w has n elements, and begins with p
 pub record Laid {A : Type 0} (n : ℕ) (p w : List A) : Type 0 where
@@ -88,3 +88,34 @@ pub parts-joined : {A : Type 0} (k : ℕ) (f : ℕ → List A) (l : List A) (n :
 unfolding joined
 parts-joined k f l zero h = rw (mul-zero k) refl
 parts-joined k f l (suc n) h = rw (mul-suc k n) (take-add (k * n) k l ∙ ap₂ _++_ (parts-joined k f l n (λ i b. h i (omega arith))) (h n (omega arith)))
+
+module _ {A : Type 0} where
+  -- a list in the place of k elements, of the first of two lists and of the second
+  pub put-first : (a k : ℕ) (xs ys v : List A) → a + k ≤ length xs → putMid a k (xs ++ ys) v ≡ putMid a k xs v ++ ys
+  put-first a k xs ys v h =
+      let rest : drop k (drop a (xs ++ ys)) ≡ drop k (drop a xs) ++ ys
+      = ap (drop k) (drop-append-le a xs ys (omega arith)) ∙ drop-append-le k (drop a xs) ys (omega (arith, length-drop a xs)) in
+      ap₂ (λ (x y : List A). x ++ (v ++ y)) (take-append-le a xs ys (omega arith)) rest ∙ simp append-assoc
+
+  pub put-second : (a k : ℕ) (xs ys v : List A) → putMid (length xs + a) k (xs ++ ys) v ≡ xs ++ putMid a k ys v
+  put-second a k xs ys v =
+      ap₂ (λ (x y : List A). x ++ (v ++ drop k y)) (take-append-add xs ys a) (drop-append-add xs ys a) ∙ append-assoc xs (take a ys) _
+
+  -- of lists that are joined another one in the place of the i-th
+  pub joined-put : (k n i : ℕ) (f g : ℕ → List A) → ((j : ℕ) → length (f j) ≡ k) → i < n → ((j : ℕ) → j < n → (j ≡ i → ⊥) → f j ≡ g j)
+      → putMid (k * i) k (joined n f) (g i) ≡ joined n g
+  unfolding joined
+  joined-put k zero i f g each h same = absurd (not-suc-le-zero h)
+  joined-put k (suc n) i f g each h same = go (eq-or-lt-of-le (le-of-suc-le-suc h)) (joined-put k n i f g each)
+    where
+      go : (i ≡ n) ⊎ (i < n) → (i < n → ((j : ℕ) → j < n → (j ≡ i → ⊥) → f j ≡ g j) → putMid (k * i) k (joined n f) (g i) ≡ joined n g)
+          → putMid (k * i) k (joined n f ++ f n) (g i) ≡ joined n g ++ g n
+      go (inl e) next =
+          let front : take (k * n) (joined n f ++ f n) ≡ joined n g
+          = take-at (joined n f) (f n) (k * n) (length-joined k f each n) ∙ joined-same n f g (λ j b. same j (omega arith) (λ d. omega arith)) in
+          let rest : drop k (drop (k * n) (joined n f ++ f n)) ≡ []
+          = ap (drop k) (drop-at (joined n f) (f n) (k * n) (length-joined k f each n)) ∙ drop-of-length-le (f n) {i = k} (le-of-eq (each n)) in
+          rw e (ap₂ (λ (x y : List A). x ++ (g n ++ y)) front rest ∙ ap (λ (y : List A). joined n g ++ y) (append-nil (g n)))
+      go (inr l) next =
+          put-first (k * i) k (joined n f) (f n) (g i) (omega (arith, length-joined k f each n, mul-le-mul-left k l, mul-suc k i))
+          ∙ ap₂ _++_ (next l (λ j b. same j (omega arith))) (same n (omega arith) (λ e. omega arith))

@@ -1,5 +1,5 @@
 -- Lists of one length put behind each other, and the parts that they are.
-use mathlib.Core.Path.{_≡_, sym, ap, _∙_}
+use mathlib.Core.Path.{_≡_, refl, sym, ap, ap₂, _∙_}
 use mathlib.Core.List.{List, [], _++_, append-assoc, append-nil}
 use mathlib.Core.Logic.{⊎-elim}
 use Prim.Native.Nat.{ℕ, zero, suc, _+_, _*_, _<_}
@@ -26,6 +26,12 @@ module _ {A : Type 0} where
   pub getD-part : (k i j : ℕ) (l : List A) (d : A) → j < k → getD (part k i l) j d ≡ getD l (k * i + j) d
   getD-part k i j l d h = getD-take k (drop (k * i) l) j d h ∙ getD-drop (k * i) l j d
 
+  -- one list of the same lists
+  pub joined-same : (n : ℕ) (f g : ℕ → List A) → ((i : ℕ) → i < n → f i ≡ g i) → joined n f ≡ joined n g
+  unfolding joined
+  joined-same zero f g h = refl
+  joined-same (suc n) f g h = ap₂ _++_ (joined-same n f g (λ i b. h i (omega arith))) (h n (omega arith))
+
   module _ (k : ℕ) (f : ℕ → List A) (each : (i : ℕ) → length (f i) ≡ k) where
     pub length-joined : (n : ℕ) → length (joined n f) ≡ k * n
     unfolding joined
@@ -49,3 +55,6 @@ module _ {A : Type 0} where
 
     pub joined-part : (n i : ℕ) → i < n → part k i (joined n f) ≡ f i
     joined-part n i h = ap (part k i) (sym (append-nil (joined n f))) ∙ part-joined n i [] h
+
+    pub getD-joined : (n i j : ℕ) (d : A) → i < n → j < k → getD (joined n f) (k * i + j) d ≡ getD (f i) j d
+    getD-joined n i j d h l = sym (getD-part k i j (joined n f) d l) ∙ ap (λ (x : List A). getD x j d) (joined-part n i h)
