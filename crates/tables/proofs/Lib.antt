@@ -1,5 +1,6 @@
 -- What the proofs lean on.
 mod Shape
 mod Parts
+pub mod Remembered
 pub mod Housing
 mod Settled

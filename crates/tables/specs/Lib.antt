@@ -2,4 +2,5 @@
 pub mod Shape
 pub mod Proper
 pub mod Grown
+pub mod Memory
 pub mod Parts

@@ -2,6 +2,7 @@
 mod actors;
 mod channels;
 pub mod homes;
+pub mod memory;
 pub mod proper;
 
 use units::Tick;
