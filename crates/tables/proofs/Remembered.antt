@@ -1,28 +1,28 @@
 -- What stands in memory is what was put there. Assumes nothing.
 use mathlib.Core.Path.{_≡_, refl, sym, ap, ap₂, _∙_}
 use mathlib.Core.List.{List, [], _∷_, _++_}
-use Prim.Native.Nat.{ℕ, suc, _+_, _*_, _-_, _%_, _^_, _≤_, _<_}
+use Prim.Native.Nat.{ℕ, zero, suc, _+_, _*_, _-_, _%_, _^_, _≤_, _<_}
 use native.Mathlib.Decide.{decLt}
-use native.Mathlib.Nat.{mod-eq-of-lt}
+use native.Mathlib.Nat.{mod-eq-of-lt, not-suc-le-zero, mul-zero, mul-suc}
 use native.Mathlib.Omega.{arith}
 use borrow.Rule.Slice.PartMut.{putMid}
-use lib.ListN.{length, getD, set, take, drop, length-append, length-take, length-drop, take-append-drop, List·getD-append}
-use lib.Seq.{take-all, getD-append-add, getD-take, getD-drop, drop-drop, drop-set-lt, drop-cons, take-add}
+use lib.ListN.{length, getD, set, take, drop, length-append, length-take, length-drop, take-append-drop, List·getD-append, length-set, replicate, length-replicate, getD-replicate, replicate-append-replicate}
+use lib.Seq.{ext-getD, take-all, getD-append-add, getD-take, getD-drop, drop-drop, drop-set-lt, drop-cons, take-add}
 use Rattle.numbers.specs.Bits.{adding}
-use Rattle.numbers.specs.Joined.{joined, part, getD-part, length-joined, getD-joined}
-use Rattle.numbers.specs.Tab.{tab, length-tab, getD-tab, is-tab, tab-same, placing, placing-there, placing-aside}
+use Rattle.numbers.specs.Joined.{joined, part, getD-part, joined-same, length-joined, getD-joined}
+use Rattle.numbers.specs.Tab.{tab, length-tab, getD-tab, is-tab, tab-same, filled-more, getD-replicated, placing, placing-there, placing-aside}
 use Rattle.numbers.proofs.Laid.{parts-joined, put-second, joined-put}
 use Rattle.units.specs.Firings.{firing}
 use Rattle.units.specs.Ticks.{tick}
-use Rattle.units.specs.Limits.{ACTORS, CHANNELS, PHASES}
+use Rattle.units.specs.Limits.{MODES, ACTORS, CHANNELS, PHASES}
 use Rattle.tables.specs.declared.Actor.{Actor}
 use Rattle.tables.specs.declared.Channel.{Channel}
 use Rattle.tables.specs.declared.Mode.{Mode}
 use Rattle.tables.specs.declared.memory.Head.{Head}
 use Rattle.tables.specs.declared.memory.Times.{Times}
-use Rattle.tables.specs.Shape.{noActor, noChannel, actorAt, channelAt}
+use Rattle.tables.specs.Shape.{noActor, noChannel, noMode, emptyMode, emptyTable, actorAt, channelAt}
 use Rattle.tables.specs.Proper.{ProperMode}
-use Rattle.tables.specs.Memory.{HEAD-WORDS, ACTOR-WORDS, FRONT-WORDS, CHANNEL-BYTES, CHANNELS-BYTES, actorsAt, channelsAt, headWords, actorWords, frontWords, rateWords, channelBytes, channelsBytes, headIn, actorIn, timesIn, timesOf, channelIn, modeIn, channelsOf, withActive}
+use Rattle.tables.specs.Memory.{HEAD-WORDS, ACTOR-WORDS, FRONT-WORDS, CHANNEL-BYTES, CHANNELS-BYTES, TABLE-WORDS, TABLE-BYTES, actorsAt, channelsAt, headWords, actorWords, frontWords, rateWords, channelBytes, channelsBytes, headIn, actorIn, timesIn, timesOf, channelIn, modeIn, frontOf, channelsOf, tableFronts, tableChannels, withActive}
 
 pub length-front : (h : Head) (actor : ℕ → Actor) (times : ℕ → Times) → length (frontWords h actor times) ≡ FRONT-WORDS
 length-front h actor times =
@@ -223,3 +223,55 @@ module _ (m : Mode) (proper : ProperMode m) (h : Head) (active : h .active ≡ m
       let b = sym (is-tab ACTORS (actorIn (frontWords h (actorAt m) times)) (m .actors) noActor (proper .actors-long) (λ i l. sym (front-actor h (actorAt m) times i l))) in
       let c = sym (is-tab CHANNELS (channelIn (channelsOf m)) (m .channels) noChannel (proper .channels-long) (λ k l. let (p, q) = rates k l in sym (channel-back (channelAt m) k l p q))) in
       λ t. record { active = a t; count = count t; actors = b t; channels = c t }
+
+-- the actor and the channel at a place of what memory holds
+pub actor-in : (f l : List ℕ) (i : ℕ) → i < ACTORS → actorAt (modeIn f l) i ≡ actorIn f i
+actor-in f l i h = getD-tab ACTORS (actorIn f) i noActor h
+
+pub channel-in : (f l : List ℕ) (k : ℕ) → k < CHANNELS → channelAt (modeIn f l) k ≡ channelIn l k
+channel-in f l k h = getD-tab CHANNELS (channelIn l) k noChannel h
+
+-- a list that is cleared from the front: its first k elements are 0
+pub record Cleared (before now : List ℕ) (k : ℕ) : Type 0 where
+  pub long : length now ≡ length before
+  pub zeros : (j : ℕ) → j < k → getD now j 0 ≡ 0
+
+pub cleared-none : (l : List ℕ) → Cleared l l 0
+cleared-none l = record { long = refl; zeros = λ j h. absurd (not-suc-le-zero h) }
+
+pub cleared-more : (l m : List ℕ) (k : ℕ) → k < length l → Cleared l m k → Cleared l (set m k 0) (k + 1)
+cleared-more l m k h c =
+    record { long = length-set m k 0 ∙ c .long; zeros = filled-more (λ j. 0) m k 0 0 (omega (arith, c .long)) refl (c .zeros) }
+
+pub cleared-all : (l m : List ℕ) (k : ℕ) → length l ≤ k → Cleared l m k → m ≡ replicate (length l) 0
+cleared-all l m k h c =
+    ext-getD 0 m (replicate (length l) 0) (c .long ∙ sym (length-replicate {A = ℕ} (length l) 0)) (λ j b. c .zeros j (omega (arith, c .long)) ∙ sym (getD-replicated {A = ℕ} (length l) j 0))
+
+-- zeros behind zeros
+abbrev zeros : ℕ → List ℕ
+zeros n = replicate n 0
+
+zeros-joined : (k n : ℕ) → joined n (λ i. zeros k) ≡ zeros (k * n)
+unfolding joined
+zeros-joined k zero = ap zeros (sym (mul-zero k))
+zeros-joined k (suc n) = ap (λ (l : List ℕ). l ++ zeros k) (zeros-joined k n) ∙ replicate-append-replicate (k * n) k 0 ∙ ap zeros (sym (mul-suc k n))
+
+-- nothing is listed in a mode, and in a table, whose memory is all 0
+pub empty-front : frontOf emptyMode ≡ zeros FRONT-WORDS
+unfolding joined
+empty-front = refl
+
+pub empty-channels : channelsOf emptyMode ≡ zeros CHANNELS-BYTES
+unfolding joined tab
+empty-channels = refl
+
+pub empty-fronts : tableFronts emptyTable ≡ zeros TABLE-WORDS
+empty-fronts = joined-same MODES _ _ (λ m h. ap frontOf (getD-replicate MODES m emptyMode noMode h) ∙ empty-front) ∙ zeros-joined FRONT-WORDS MODES
+
+pub empty-bytes : tableChannels emptyTable ≡ zeros TABLE-BYTES
+empty-bytes = joined-same MODES _ _ (λ m h. ap channelsOf (getD-replicate MODES m emptyMode noMode h) ∙ empty-channels) ∙ zeros-joined CHANNELS-BYTES MODES
+
+-- the memory of a mode has its length, whatever the mode
+pub length-channels : (m : Mode) → length (channelsOf m) ≡ CHANNELS-BYTES
+unfolding tab
+length-channels m = length-joined CHANNEL-BYTES (λ k. channelBytes (channelAt m k)) (λ k. refl) CHANNELS

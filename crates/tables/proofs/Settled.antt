@@ -26,6 +26,10 @@ use Rattle.tables.proofs.memory.list_actor.Kinds as list-actor-kinds
 use Rattle.tables.proofs.memory.list_actor.Reads as list-actor
 use Rattle.tables.proofs.memory.list_channel.Kinds as list-channel-kinds
 use Rattle.tables.proofs.memory.list_channel.Reads as list-channel
+use Rattle.tables.proofs.memory.clear.Kinds as clear-kinds
+use Rattle.tables.proofs.memory.clear.Reads as clear
+use Rattle.tables.proofs.memory.clear_bytes.Kinds as clear-bytes-kinds
+use Rattle.tables.proofs.memory.clear_bytes.Reads as clear-bytes
 use Rattle.tables.proofs.proper.proper_mode.Kinds as proper-mode-kinds
 use Rattle.tables.proofs.proper.proper_mode.Reads as proper-mode
 use Rattle.tables.proofs.proper.proper.Kinds as proper-kinds
@@ -70,3 +74,11 @@ list-channel-settled : (κs : Lfts 2) (a : Dens κs list-channel-kinds.ps) (x y 
     (s t : AtExit (endedOf 2 list-channel-kinds.ps list-channel-kinds.r) κs)
     → list-channel.Post κs a x s → list-channel.Post κs a y t → (now (s .0) ≡ now (t .0)) × (now (s .1 .0) ≡ now (t .1 .0))
 list-channel-settled κs a x y s t p q = (p .0 ∙ sym (q .0), p .1 ∙ sym (q .1))
+
+clear-settled : (κs : Lfts 1) (a : Dens κs clear-kinds.ps) (x y : resT clear-kinds.r κs .Denot) (s t : AtExit (endedOf 1 clear-kinds.ps clear-kinds.r) κs)
+    → clear.Post κs a x s → clear.Post κs a y t → now (s .0) ≡ now (t .0)
+clear-settled κs a x y s t p q = p ∙ sym q
+
+clear-bytes-settled : (κs : Lfts 1) (a : Dens κs clear-bytes-kinds.ps) (x y : resT clear-bytes-kinds.r κs .Denot) (s t : AtExit (endedOf 1 clear-bytes-kinds.ps clear-bytes-kinds.r) κs)
+    → clear-bytes.Post κs a x s → clear-bytes.Post κs a y t → now (s .0) ≡ now (t .0)
+clear-bytes-settled κs a x y s t p q = p ∙ sym q

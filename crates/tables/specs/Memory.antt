@@ -6,15 +6,16 @@ use lib.ListN.{length, getD}
 use Rattle.numbers.specs.Bits.{adding}
 use Rattle.numbers.specs.Joined.{joined}
 use Rattle.numbers.specs.Tab.{tab}
-use Rattle.units.specs.Limits.{ACTORS, CHANNELS, PHASES}
+use Rattle.units.specs.Limits.{MODES, ACTORS, CHANNELS, PHASES}
 use Rattle.units.specs.Firings.{firing}
 use Rattle.units.specs.Ticks.{tick}
 use Rattle.tables.specs.declared.Actor.{Actor}
 use Rattle.tables.specs.declared.Channel.{Channel}
 use Rattle.tables.specs.declared.Mode.{Mode}
+use Rattle.tables.specs.declared.Table.{Table}
 use Rattle.tables.specs.declared.memory.Head.{Head}
 use Rattle.tables.specs.declared.memory.Times.{Times}
-use Rattle.tables.specs.Shape.{actorAt, channelAt}
+use Rattle.tables.specs.Shape.{actorAt, channelAt, modeAt}
 use Rattle.tables.specs.Proper.{ProperMode}
 
 -- how many words a mode's own numbers, an actor and a front have, and how many bytes a channel and all channels
@@ -32,6 +33,13 @@ CHANNEL-BYTES = 2 + 2 * PHASES
 
 abbrev pub CHANNELS-BYTES : ℕ
 CHANNELS-BYTES = CHANNEL-BYTES * CHANNELS
+
+-- and how many the fronts and the channels of a table
+abbrev pub TABLE-WORDS : ℕ
+TABLE-WORDS = FRONT-WORDS * MODES
+
+abbrev pub TABLE-BYTES : ℕ
+TABLE-BYTES = CHANNELS-BYTES * MODES
 
 -- a mode's own numbers: its active actors, the number of its channels, its iteration, and the places of its source and its sink
 abbrev pub headWords : Head → List ℕ
@@ -112,3 +120,10 @@ frontOf m = frontWords (headOf m) (actorAt m) (λ i. noTimes)
 
 abbrev pub channelsOf : Mode → List ℕ
 channelsOf m = channelsBytes (channelAt m)
+
+-- a table, mode by mode
+abbrev pub tableFronts : Table → List ℕ
+tableFronts t = joined MODES (λ m. frontOf (modeAt t m))
+
+abbrev pub tableChannels : Table → List ℕ
+tableChannels t = joined MODES (λ m. channelsOf (modeAt t m))

@@ -6,10 +6,11 @@ use units::Firing;
 use units::Tick;
 use units::limits::ACTORS;
 use units::limits::CHANNELS;
+use units::limits::MODES;
 use units::limits::PHASES;
 ghost use mathlib.Core.Path.{_≡_};
 ghost use Prim.Native.Nat.{_+_, _<_};
-ghost use lib.ListN.{length, set};
+ghost use lib.ListN.{length, set, replicate};
 ghost use Rattle.numbers.specs.Tab.{placing};
 ghost use Rattle.units.specs.Limits.{ACTORS as ACTORS-LIMIT, CHANNELS as CHANNELS-LIMIT, PHASES as PHASES-LIMIT};
 ghost use Rattle.tables.specs.Memory.{ACTOR-WORDS, FRONT-WORDS, CHANNEL-BYTES, CHANNELS-BYTES, headIn, actorIn, timesOf, timesIn, channelIn, actorWords, frontWords, channelBytes, channelsBytes, withActive};
@@ -28,6 +29,11 @@ const TAKEN_AT: usize = MADE_AT + PHASES;
 pub const CHANNEL_BYTES: usize = TAKEN_AT + PHASES;
 
 pub const CHANNELS_BYTES: usize = CHANNEL_BYTES * CHANNELS;
+
+// The words and the bytes of a table, mode by mode.
+pub const TABLE_WORDS: usize = FRONT_WORDS * MODES;
+
+pub const TABLE_BYTES: usize = CHANNELS_BYTES * MODES;
 
 // How many sets of actors there are.
 const SETS: u64 = 1 << ACTORS;
@@ -173,4 +179,22 @@ pub fn list_channel(front: &mut [u64], channels: &mut [u8], channel: Channel)
     let e = a + CHANNEL_BYTES;
     front[1] = k as u64 + 1;
     put_channel(channel, &mut channels[a..e]);
+}
+
+// Nothing but 0 in words.
+pub fn clear(words: &mut [u64])
+    ensures { λ _. ⌜ now (words .exit) ≡ replicate (length (now (words .entry))) 0 ⌝ }
+{
+    for k in 0..words.len() {
+        words[k] = 0;
+    }
+}
+
+// Nothing but 0 in bytes.
+pub fn clear_bytes(bytes: &mut [u8])
+    ensures { λ _. ⌜ now (bytes .exit) ≡ replicate (length (now (bytes .entry))) 0 ⌝ }
+{
+    for k in 0..bytes.len() {
+        bytes[k] = 0;
+    }
 }
