@@ -1,6 +1,6 @@
 -- Each public function's statement admits one answer only.
 use mathlib.Core.Path.{sym, _∙_}
-use Rattle.numbers.specs.Extreme.{least-unique}
+use Rattle.numbers.specs.Extreme.{least-unique, greatest-unique}
 use Rattle.numbers.specs.Decides.{decides-unique}
 use Rattle.numbers.specs.Euclid.{gcd-unique}
 use Rattle.numbers.specs.Multiples.{lcm-within-unique}
@@ -11,6 +11,8 @@ use Rattle.numbers.proofs.common.gcd32.Kinds as gcd32-kinds
 use Rattle.numbers.proofs.common.gcd32.Reads as gcd32
 use Rattle.numbers.proofs.common.lcm.Kinds as lcm-kinds
 use Rattle.numbers.proofs.common.lcm.Reads as lcm
+use Rattle.numbers.proofs.extreme.greatest.Kinds as greatest-kinds
+use Rattle.numbers.proofs.extreme.greatest.Reads as greatest
 use Rattle.numbers.proofs.fraction.plus.Kinds as plus-kinds
 use Rattle.numbers.proofs.fraction.plus.Reads as plus
 use Rattle.numbers.proofs.fraction.at_most.Kinds as at-most-kinds
@@ -35,3 +37,6 @@ at-most-settled κs a x y s t p q = decides-unique x y p q
 
 rounded-up-settled : Settles 0 rounded-up-kinds.ps rounded-up-kinds.r rounded-up.Post
 rounded-up-settled κs a x y s t p q = least-unique _ p q
+
+greatest-settled : Settles 1 greatest-kinds.ps greatest-kinds.r greatest.Post
+greatest-settled κs a x y s t p q = greatest-unique _ p q

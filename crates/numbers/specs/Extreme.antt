@@ -1,11 +1,13 @@
 -- The least and the greatest number with a property, and how many there are where they come first. Each is one number at most.
 use mathlib.Core.Path.{_≡_, refl, ap₂}
-use mathlib.Core.Logic.{_↔_, ⊎-elim}
+use mathlib.Core.List.{List}
+use mathlib.Core.Logic.{_↔_, _⊎_, inl, inr, ⊎-elim}
 use Prim.Native.Nat.{ℕ, zero, suc, _≤_, _<_, max, _+_}
 use native.Mathlib.Nat.{le-antisymm, lt-of-lt-of-le, not-suc-le-zero, le-of-suc-le-suc, eq-or-lt-of-le, le-refl}
 use native.Mathlib.Omega.{arith}
 use native.Mathlib.Decide.{decLe}
 use native.Mathlib.Numerals.{add-one}
+use lib.ListN.{length, getD}
 
 -- n has the property P, and no smaller number has it
 pub record Least (P : ℕ → Type 0) (n : ℕ) : Type 0 where
@@ -25,6 +27,10 @@ ExactlyFirst P n = (k : ℕ) → (k < n) ↔ P k
 unfoldable pub mostOf : (ℕ → ℕ) → ℕ → ℕ
 mostOf f zero = 0
 mostOf f (suc n) = max (mostOf f n) (f n)
+
+-- the greatest of the numbers of a list and 0
+abbrev pub GreatestIn : List ℕ → ℕ → Type 0
+GreatestIn l = Greatest (λ v. (v ≡ 0) ⊎ ((i : ℕ) × (i < length l) × (v ≡ getD l i 0)))
 
 pub least-unique : (P : ℕ → Type 0) {n m : ℕ} → Least P n → Least P m → n ≡ m
 least-unique P {n} {m} p q = le-antisymm (p .least m (q .holds)) (q .least n (p .holds))
@@ -68,6 +74,20 @@ module _ (f : ℕ → ℕ) where
       record {
         holds = (j, (l, only j l (omega (arith, most-above n i (a .0)))), e);
         greatest = λ v (k, b, d). omega (arith, most-above n k (b .0));
+      }
+
+-- the greatest of a list's elements is the greatest in it
+module _ (l : List ℕ) where
+  abbrev at : ℕ → ℕ
+  at i = getD l i 0
+
+  pub most-in : GreatestIn l (mostOf at (length l))
+  most-in =
+      record {
+        holds =
+            ⊎-elim (λ (z : 0 ≡ mostOf at (length l)). inl (omega arith)) (λ (p : 0 < mostOf at (length l)). let (i, h, e) = most-at at (length l) p in inr (i, h, omega arith))
+            (eq-or-lt-of-le (omega arith));
+        greatest = λ m. ⊎-elim (λ (z : m ≡ 0). omega arith) (λ ((i, h, e) : (i : ℕ) × (i < length l) × (m ≡ at i)). omega (arith, most-above at (length l) i h));
       }
 
 -- the same values have the same greatest

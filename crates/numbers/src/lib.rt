@@ -1,4 +1,5 @@
 // Number laws: they know nothing of pipelines.
 pub mod common;
+pub mod extreme;
 pub mod fraction;
 pub mod quotient;
