@@ -9,7 +9,7 @@ use Rattle.terms.specs.declared.refusal.Refusal.{Refusal}
 use Rattle.tables.specs.declared.Table.{Table}
 use Rattle.csv.specs.Decimal.{decimal}
 use Rattle.csv.specs.Writing.{joined}
-use Rattle.planning.specs.declared.Plan.{Plan}
+use Rattle.planning.specs.Shape.{Plan}
 use Rattle.layout.specs.Words.{WORDS}
 use Rattle.printer.specs.Printed.{planText, refusalText}
 use Rattle.planner.specs.declared.Answer.the-variants.{Accepted, Refused}

@@ -1,20 +1,37 @@
--- A mode as it is kept to run, and when it is ready for changes.
+-- A mode as it runs, the front that holds it, and when it is ready for changes.
 use mathlib.Core.Path.{_≡_}
-use mathlib.Core.List.{[]}
+use mathlib.Core.List.{List, []}
 use Prim.Native.Nat.{ℕ, _*_, _≤_, _<_}
+use lib.ListN.{length, getD}
 use Rattle.numbers.specs.Bits.{Has}
+use Rattle.numbers.specs.Joined.{joined}
 use Rattle.numbers.specs.Tab.{tab}
 use Rattle.units.specs.Bounds.{MOST-START}
 use Rattle.units.specs.Limits.{ACTORS, ITERATION-LIMIT, limitOf}
+use Rattle.units.specs.declared.Tick.{Tick}
 use Rattle.tables.specs.Shape.{noActor, actorAt, Active}
 use Rattle.tables.specs.Proper.{ProperActor}
-use Rattle.change.specs.declared.Running.{Running}
+use Rattle.tables.specs.Memory.{FRONT-WORDS, headIn, actorIn, timesIn}
 use Rattle.change.specs.Change.{ModeTimes, periodIn, startOf, Bearable}
-use Rattle.change.specs.Work.{firingsAt, worksAt}
+use Rattle.change.specs.Work.{Running, preparedOf, firingsAt, worksAt, noWorks, workWords}
+
+-- the start-up of the mode that a front holds ends with the start of its sink
+abbrev pub startupIn : List ℕ → Tick
+startupIn f = timesIn f (headIn f .sink) .start
+
+-- the mode that a front holds, as it runs
+abbrev pub runningIn : List ℕ → Running
+runningIn f =
+    preparedOf (headIn f .active) (tab ACTORS (actorIn f)) (headIn f .iteration) (tab ACTORS (λ i. timesIn f i .firings)) (tab ACTORS (λ i. timesIn f i .period)) (tab ACTORS (λ i. timesIn f i .start))
+    (timesIn f (headIn f .sink) .start) (startupIn f)
+
+-- the words of its works, actor by actor
+abbrev pub worksWords : List ℕ → List ℕ
+worksWords f = joined ACTORS (λ i. workWords (getD (runningIn f .works) i noWorks))
 
 -- the mode and what is planned of it; no rule of a change asks for its channels
-abbrev pub timesIn : Running → ModeTimes
-timesIn r =
+abbrev pub modeTimes : Running → ModeTimes
+modeTimes r =
     record {
       mode = record { active = r .active; count = 0; actors = r .actors; channels = [] };
       iteration = r .iteration;
@@ -27,14 +44,21 @@ timesIn r =
 -- A mode that is planned: its actors in their ranges, their firings and periods fill the iteration, none starts after the end of the start-up,
 -- no processor is asked for more than the limit, and its works are summed.
 pub record Ready (r : Running) : Type 0 where
-  pub actor : (i : ℕ) → Active (timesIn r .mode) i → ProperActor (actorAt (timesIn r .mode) i)
-  pub no-actor : (i : ℕ) → i < ACTORS → (Has (r .active) i → ⊥) → actorAt (timesIn r .mode) i ≡ noActor
-  pub period : (i : ℕ) → Active (timesIn r .mode) i → 0 < periodIn (timesIn r) i .0
-  pub whole : (i : ℕ) → Active (timesIn r .mode) i → firingsAt (r .firings) i .0 * periodIn (timesIn r) i .0 ≡ r .iteration .0
-  pub start : (i : ℕ) → i < ACTORS → startOf (timesIn r) i ≤ r .startup .0
+  pub actor : (i : ℕ) → Active (modeTimes r .mode) i → ProperActor (actorAt (modeTimes r .mode) i)
+  pub no-actor : (i : ℕ) → i < ACTORS → (Has (r .active) i → ⊥) → actorAt (modeTimes r .mode) i ≡ noActor
+  pub period : (i : ℕ) → Active (modeTimes r .mode) i → 0 < periodIn (modeTimes r) i .0
+  pub whole : (i : ℕ) → Active (modeTimes r .mode) i → firingsAt (r .firings) i .0 * periodIn (modeTimes r) i .0 ≡ r .iteration .0
+  pub start : (i : ℕ) → i < ACTORS → startOf (modeTimes r) i ≤ r .startup .0
   pub sink-start : r .«sink_start» .0 ≤ MOST-START .0
   pub startup : r .startup .0 ≤ MOST-START .0
   pub some-tick : 0 < r .iteration .0
   pub iteration : r .iteration .0 ≤ ITERATION-LIMIT .0
-  pub load : Bearable limitOf (timesIn r)
+  pub load : Bearable limitOf (modeTimes r)
   pub works : r .works ≡ tab ACTORS (worksAt (r .actors) (r .firings) (r .starts))
+
+-- a front that holds such a mode, with the words of its works
+pub record ReadyFront (front words : List ℕ) : Type 0 where
+  pub long : length front ≡ FRONT-WORDS
+  pub sink : headIn front .sink < ACTORS
+  pub ready : Ready (runningIn front)
+  pub works : words ≡ worksWords front

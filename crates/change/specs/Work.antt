@@ -1,10 +1,10 @@
 -- The work of a mode's actors in an iteration, summed over those of a processor that start no earlier or no later than one of them.
 use mathlib.Core.Path.{_≡_}
 use mathlib.Core.Bool.{Bool, cond, _&&_}
-use mathlib.Core.List.{List}
-use Prim.Native.Nat.{ℕ, _≤_, _<_}
+use mathlib.Core.List.{List, [], _∷_}
+use Prim.Native.Nat.{ℕ, _*_, _≤_, _<_}
 use lib.Dec.{eqb, leb}
-use lib.ListN.{length, getD}
+use lib.ListN.{getD}
 use Rattle.numbers.specs.Sum.{sum}
 use Rattle.numbers.specs.Tab.{tab}
 use Rattle.units.specs.Bounds.{MOST-FIRINGS}
@@ -16,12 +16,11 @@ use Rattle.units.specs.declared.Firing.{Firing}
 use Rattle.period.specs.Period.{workOf}
 use Rattle.tables.specs.declared.Actor.{Actor}
 use Rattle.tables.specs.Shape.{noActor}
-use Rattle.change.specs.declared.Running.{Running}
 use Rattle.change.specs.declared.Works.{Works}
 
 -- an actor, its firings and its start
-abbrev pub actorIn : List Actor → ℕ → Actor
-actorIn actors i = getD actors i noActor
+abbrev pub actorOf : List Actor → ℕ → Actor
+actorOf actors i = getD actors i noActor
 
 abbrev pub firingsAt : List Firing → ℕ → Firing
 firingsAt firings i = getD firings i (firing 0)
@@ -33,18 +32,10 @@ tickAt ticks i = getD ticks i (tick 0)
 abbrev pub noWorks : Works
 noWorks = record { since = tick 0; until = tick 0 }
 
--- actors and firings within their ranges
-pub record Fitting (actors : List Actor) (firings : List Firing) (starts : List Tick) : Type 0 where
-  pub actors-long : length actors ≡ ACTORS
-  pub firings-long : length firings ≡ ACTORS
-  pub starts-long : length starts ≡ ACTORS
-  pub wcet : (i : ℕ) → i < ACTORS → actorIn actors i .wcet .0 ≤ MOST-WCET .0
-  pub few : (i : ℕ) → i < ACTORS → firingsAt firings i .0 ≤ MOST-FIRINGS .0
-
 -- the work of actor k where it is on processor p and counts, and none otherwise
 abbrev pub countedOf : List Actor → List Firing → ℕ → (ℕ → Bool) → ℕ → Tick
 countedOf actors firings p counts k =
-    cond (eqb (actorIn actors k .processor) p && counts k) (workOf (actorIn actors k .wcet) (firingsAt firings k)) (tick 0)
+    cond (eqb (actorOf actors k .processor) p && counts k) (workOf (actorOf actors k .wcet) (firingsAt firings k)) (tick 0)
 
 -- the work on processor p of the actors that start no earlier than a tick, and of those that start no later
 abbrev pub worksOf : List Actor → List Firing → List Tick → ℕ → Tick → Works
@@ -56,7 +47,36 @@ worksOf actors firings starts p start =
 
 -- the same of actor i's processor and its start
 abbrev pub worksAt : List Actor → List Firing → List Tick → ℕ → Works
-worksAt actors firings starts i = worksOf actors firings starts (actorIn actors i .processor) (tickAt starts i)
+worksAt actors firings starts i = worksOf actors firings starts (actorOf actors i .processor) (tickAt starts i)
+
+-- how many words the works of an actor have, and those of all actors
+abbrev pub WORK-WORDS : ℕ
+WORK-WORDS = 2
+
+abbrev pub WORKS-WORDS : ℕ
+WORKS-WORDS = WORK-WORDS * ACTORS
+
+abbrev pub workWords : Works → List ℕ
+workWords w = w .since .0 ∷ w .until .0 ∷ []
+
+-- A mode as it runs: its active actors, their firings, periods and starts, its iteration, the tick set for the sink's first firing, and the tick at which its start-up ends;
+-- and of each actor the works on its processor.
+pub record Running : Type 0 where
+  pub active : ℕ
+  pub actors : List Actor
+  pub iteration : Tick
+  pub firings : List Firing
+  pub periods : List Tick
+  pub starts : List Tick
+  pub «sink_start» : Tick
+  pub startup : Tick
+  pub works : List Works
+
+-- its actors and firings are within their ranges, and one without a processor has no wcet
+pub record Fitting (r : Running) : Type 0 where
+  pub wcet : (i : ℕ) → i < ACTORS → actorOf (r .actors) i .wcet .0 ≤ MOST-WCET .0
+  pub few : (i : ℕ) → i < ACTORS → firingsAt (r .firings) i .0 ≤ MOST-FIRINGS .0
+  pub nowhere : (i : ℕ) → i < ACTORS → actorOf (r .actors) i .processor ≡ 0 → actorOf (r .actors) i .wcet .0 ≡ 0
 
 -- a mode with these numbers, as it runs
 abbrev pub preparedOf : ℕ → List Actor → Tick → List Firing → List Tick → List Tick → Tick → Tick → Running

@@ -4,34 +4,27 @@ mod work;
 
 use crate::wait::offset_of;
 use crate::wait::overlap_of;
-use crate::work::works_of;
-use tables::Actor;
-use units::Firing;
+use crate::work::WORK_WORDS;
+use crate::work::put_work;
+use crate::work::works_at;
+use tables::memory::head_of;
+use tables::memory::times_at;
 use units::Tick;
 use units::limits::ACTORS;
 ghost use mathlib.Core.Path.{_≡_};
-ghost use Rattle.change.specs.Work.{Fitting, preparedOf};
+ghost use lib.ListN.{length};
+ghost use Rattle.tables.specs.Memory.{FRONT-WORDS};
+ghost use Rattle.change.specs.Work.{WORKS-WORDS, Fitting};
 ghost use Rattle.change.specs.Change.{Changes};
-ghost use Rattle.change.specs.Running.{timesIn, Ready};
+ghost use Rattle.change.specs.Running.{runningIn, worksWords, modeTimes, ReadyFront};
+
+// The words of the works of all actors.
+pub const WORKS_WORDS: usize = WORK_WORDS * ACTORS;
 
 // The work in an iteration of the actors on a processor that start no earlier than one of them, and of those that start no later.
 pub struct Works {
     pub since: Tick,
     pub until: Tick,
-}
-
-// A mode as it runs: its active actors, their firings, periods and starts, its iteration, the tick set for the sink's first firing, and the tick at which its start-up ends;
-// and of each actor the works on its processor.
-pub struct Running {
-    pub active: u16,
-    pub actors: [Actor; ACTORS],
-    pub iteration: Tick,
-    pub firings: [Firing; ACTORS],
-    pub periods: [Tick; ACTORS],
-    pub starts: [Tick; ACTORS],
-    pub sink_start: Tick,
-    pub startup: Tick,
-    pub works: [Works; ACTORS],
 }
 
 // The timing of a change: its overlap, its offset and its worst delay.
@@ -41,55 +34,35 @@ pub struct Timing {
     pub worst: Tick,
 }
 
-// A mode with these numbers, as it runs.
-pub fn prepare(
-    active: u16,
-    actors: [Actor; ACTORS],
-    iteration: Tick,
-    firings: [Firing; ACTORS],
-    periods: [Tick; ACTORS],
-    starts: [Tick; ACTORS],
-    sink_start: Tick,
-    startup: Tick,
-) -> Running
-    requires { ⌜ Fitting actors firings starts ⌝ }
-    ensures { λ r. ⌜ r ≡ preparedOf active actors iteration firings periods starts «sink_start» startup ⌝ }
+// The words of the works of each actor of the mode that a front holds.
+pub fn put_works(front: &[u64], works: &mut [u64])
+    requires { ⌜ (length (now front) ≡ FRONT-WORDS) × (length (now works) ≡ WORKS-WORDS) × Fitting (runningIn (now front)) ⌝ }
+    ensures { λ _. ⌜ now (works .exit) ≡ worksWords (now (front .entry)) ⌝ }
 {
-    let none = Works {
-        since: Tick::NONE,
-        until: Tick::NONE,
-    };
-    let mut works = [none; ACTORS];
     for i in 0..ACTORS {
-        let actor = actors[i];
-        works[i] = works_of(actors, firings, starts, actor.processor, starts[i]);
-    }
-    Running {
-        active: active,
-        actors: actors,
-        iteration: iteration,
-        firings: firings,
-        periods: periods,
-        starts: starts,
-        sink_start: sink_start,
-        startup: startup,
-        works: works,
+        let a = WORK_WORDS * i;
+        let e = a + WORK_WORDS;
+        let found = works_at(front, i);
+        put_work(found, &mut works[a..e]);
     }
 }
 
-// The change from one mode to another.
-pub fn change(old: Running, new: Running) -> Timing
-    requires { ⌜ Ready old × Ready new ⌝ }
-    ensures { λ r. ⌜ Changes (timesIn old) (timesIn new) r ⌝ }
+// The change from one mode to another, each by its front and the words of its works.
+pub fn change(old: &[u64], leaving: &[u64], new: &[u64], entering: &[u64]) -> Timing
+    requires { ⌜ ReadyFront (now old) (now leaving) × ReadyFront (now new) (now entering) ⌝ }
+    ensures { λ r. ⌜ Changes (modeTimes (runningIn (now (old .entry)))) (modeTimes (runningIn (now (new .entry)))) r ⌝ }
 {
     let overlap = overlap_of(old, new);
-    let offset = offset_of(old, new, overlap);
+    let offset = offset_of(old, leaving, new, entering, overlap);
+    let before = head_of(old);
+    let after = head_of(new);
+    let sink = times_at(new, after.sink);
     Timing {
         overlap: overlap,
         offset: offset,
         worst: offset
-            .plus(new.sink_start)
-            .plus(old.iteration)
+            .plus(sink.start)
+            .plus(before.iteration)
             .minus(Tick::ONE),
     }
 }

@@ -15,13 +15,11 @@ use Rattle.tables.specs.declared.Table.{Table}
 use Rattle.tables.specs.Shape.{emptyTable}
 use Rattle.reader.specs.declared.Answer.{Answer as ReadAnswer}
 use Rattle.reader.specs.declared.Answer.the-variants.{Read, Refused as NotRead}
-use Rattle.reader.specs.declared.Reading.{Reading}
 use Rattle.reader.specs.Rows.{Row, by-3, by-4, by-5}
 use Rattle.reader.specs.Numbers.{readNumbers}
-use Rattle.reader.specs.Told.{Outcome as Rows, rows, refused as rows-refused, FrontRefused, After, Of, readingOf, Told}
+use Rattle.reader.specs.Told.{Reading, Outcome as Rows, rows, refused as rows-refused, FrontRefused, After, Of, readingOf, Told}
 use Rattle.reader.proofs.Again.{reads-proper}
-use Rattle.planning.specs.declared.Plan.{Plan}
-use Rattle.planning.specs.declared.Outcome.{Outcome}
+use Rattle.planning.specs.Shape.{Plan, Outcome}
 use Rattle.planning.specs.declared.Answer.{Answer as PlanningAnswer}
 use Rattle.planning.specs.declared.Answer.the-variants.{Planned as IsPlanned, Refused as NotPlanned}
 use Rattle.planning.specs.Numbers.{modesNumbers}

@@ -17,7 +17,7 @@ use Rattle.terms.specs.Place.{numberOf}
 use Rattle.terms.specs.Text.{bytes}
 use Rattle.tables.specs.declared.Table.{Table}
 use Rattle.tables.specs.Shape.{channelAt, modeAt}
-use Rattle.planning.specs.declared.Plan.{Plan}
+use Rattle.planning.specs.Shape.{Plan}
 use Rattle.planning.specs.Plan.{partAt}
 use Rattle.run.specs.Plan.{Acts}
 use Rattle.printer.specs.Texts.{texts}

@@ -18,13 +18,11 @@ use Rattle.terms.specs.declared.refusal.Refusal.{Refusal}
 use Rattle.tables.specs.declared.Table.{Table}
 use Rattle.tables.specs.Shape.{modeAt, emptyTable}
 use Rattle.reader.specs.declared.Answer.the-variants.{Read as IsRead, Refused as NotRead}
-use Rattle.reader.specs.declared.Reading.{Reading}
 use Rattle.reader.specs.Numbers.{readNumbers}
-use Rattle.reader.specs.Told.{Told}
+use Rattle.reader.specs.Told.{Reading, Told}
 use Rattle.change.specs.declared.Timing.{Timing}
 use Rattle.planning.specs.declared.ModePlan.{ModePlan}
-use Rattle.planning.specs.declared.Plan.{Plan}
-use Rattle.planning.specs.declared.Outcome.{Outcome}
+use Rattle.planning.specs.Shape.{Plan, Outcome}
 use Rattle.planning.specs.Numbers.{modesNumbers}
 use Rattle.planning.specs.Plan.{changeAt, Listed, ModePlanned, ModeRefused, Planned, Planning}
 use Rattle.run.specs.Plan.{RunPlan, Acts}

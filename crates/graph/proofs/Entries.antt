@@ -9,6 +9,7 @@ use native.Mathlib.Decide.{ℕ-discrete}
 use lib.ListN.{length, getD, set, replicate, length-set, length-replicate}
 use lib.Seq.{getD-set-same, getD-set-other}
 use Rattle.units.specs.Limits.{ACTORS}
+use Rattle.tables.specs.declared.Channel.{Channel}
 use Rattle.tables.specs.declared.Mode.{Mode}
 use Rattle.tables.specs.Shape.{channelAt}
 use Rattle.tables.specs.Proper.{ProperMode}
@@ -17,10 +18,10 @@ use Rattle.graph.specs.Counts.{Entered, entriesFrom, entriesOf}
 use Rattle.graph.proofs.Sorted.{depth-joined}
 
 -- one channel less, as a loop counts down
-pub entries-next : (m : Mode) (k : ℕ) (es : List ℕ) → 0 < k → entriesFrom m k es ≡ entriesFrom m (k - 1) (set es (channelAt m (k - 1) .to) (k - 1))
+pub entries-next : (m : Mode) (k : ℕ) (es : List ℕ) (c : Channel) → 0 < k → c ≡ channelAt m (k - 1) → entriesFrom m k es ≡ entriesFrom m (k - 1) (set es (c .to) (k - 1))
 unfolding entriesFrom
-entries-next m zero es h = absurd (not-suc-le-zero h)
-entries-next m (suc k) es h = let e : suc k - 1 ≡ k = omega arith in rw e
+entries-next m zero es c h q = absurd (not-suc-le-zero h)
+entries-next m (suc k) es c h q = let e : suc k - 1 ≡ k = omega arith in rw (q, e)
 
 entries-kept : (m : Mode) (n : ℕ) (es : List ℕ) → length (entriesFrom m n es) ≡ length es
 unfolding entriesFrom

@@ -1,20 +1,22 @@
 -- The flows of a mode's channels and the steps that count by them. Assumes nothing.
-use mathlib.Core.Path.{_≡_, refl, ap, _∙_}
-use mathlib.Core.Bool.{Bool, true, false, cond, _&&_}
+use mathlib.Core.Path.{_≡_, refl, ap, ap₂, _∙_}
+use mathlib.Core.Bool.{Bool, true, false, cond, _&&_, and-false}
 use mathlib.Core.List.{List}
 use mathlib.Core.Logic.{⊎-elim}
-use Prim.Native.Nat.{ℕ, zero, suc, _+_, _*_, _%_, _^_, _≤_, _<_, zero-le}
+use Prim.Native.Nat.{ℕ, zero, suc, _+_, _*_, _/_, _%_, _^_, _≤_, _<_, zero-le}
 use native.Mathlib.Nat.{not-suc-le-zero, le-of-suc-le-suc, eq-or-lt-of-le, lt-suc-self, lt-of-not-le, le-refl, mul-le-mul}
 use native.Mathlib.Numerals.{add-one}
 use native.Mathlib.Omega.{arith}
 use native.Mathlib.Decide.{decLt, ℕ-discrete}
 use borrow.Author.Count.{below-more}
-use borrow.Author.Tests.{ltb-true, ltb-false, leb-true, leb-false, lt-ltb, le-ltb}
+use borrow.Author.Tests.{ltb-true, ltb-false, leb-true, leb-false, lt-ltb, le-ltb, ne-eqb}
 use lib.Dec.{eqb, leb, ltb}
 use lib.ListN.{length, getD, set, take, replicate, length-set, length-replicate}
 use lib.Seq.{getD-set-same, getD-set-other, getD-take, length-take-le, set-out}
+use Rattle.numbers.specs.Bits.{hasb}
 use Rattle.numbers.specs.Decides.{Decides, decides-eqb}
 use Rattle.numbers.specs.All.{Below, all-decides}
+use Rattle.numbers.specs.Extreme.{GreatestIn, greatest-above, greatest-below}
 use Rattle.numbers.specs.Sum.{sum-most, sum-one}
 use Rattle.numbers.specs.Tab.{tab, length-tab, tab-at, is-tab, filled-more, getD-replicated}
 use Rattle.units.specs.declared.Token.{Token}
@@ -24,19 +26,39 @@ use Rattle.units.specs.Tokens.{timesTokens}
 use Rattle.rate.specs.declared.Meeting.{Meeting}
 use Rattle.rate.specs.Rate.{rateOf, rate-in}
 use Rattle.rate.specs.Reckoned.{meetOf}
+use Rattle.tables.specs.declared.Actor.{Actor}
+use Rattle.tables.specs.declared.Channel.{Channel}
 use Rattle.tables.specs.declared.Mode.{Mode}
-use Rattle.tables.specs.Shape.{channelAt}
+use Rattle.tables.specs.Shape.{actorAt, channelAt}
 use Rattle.tables.specs.Proper.{ProperMode, ProperRates}
+use Rattle.tables.specs.Memory.{headIn, actorIn, channelIn, modeIn, Stands}
 use Rattle.graph.specs.declared.balance.Counts.{Counts}
 use Rattle.graph.specs.declared.balance.Flow.{Flow}
 use Rattle.graph.specs.Balance.{cycleSum, madeOn, takenOn}
-use Rattle.graph.specs.Counts.{MOST-TOKENS, Small, FlowIn, flowOf, aboveLimit, stays, scaledOf, withCount, metBy, fedOf, dueAt, countsFrom, balancesb}
+use Rattle.graph.specs.Counts.{MOST-TOKENS, Small, Shallow, FlowIn, flowBetween, flowOf, aboveLimit, stays, scaledOf, withCount, metBy, fedOf, dueAt, countsFrom, balancesb}
+use Rattle.graph.proofs.Lent.{actor-read, phases-few, channel-read, channel-proper}
 
 -- one step more, as a loop counts
 pub counts-next : (m : Mode) (es ds : List ℕ) (s n : ℕ)
     → countsFrom m es ds s (n + 1) ≡ cond (dueAt m ds n) (fedOf (countsFrom m es ds s n) (flowOf m (getD es (n % ACTORS) 0)) (n % ACTORS)) (countsFrom m es ds s n)
 unfolding countsFrom
 counts-next m es ds s n = rw add-one
+
+-- behind the greatest depth no actor is due
+module _ (m : Mode) (es ds : List ℕ) (s last : ℕ) (most : GreatestIn ds last) where
+  none-due : (n : ℕ) → ACTORS * last ≤ n → dueAt m ds n ≡ false
+  none-due n h =
+      rw (ne-eqb (getD ds (n % ACTORS) 0) (n / ACTORS + 1) (λ q. omega (arith, h, q, greatest-above ds last most (n % ACTORS)))) (and-false (hasb (m .active) (n % ACTORS)))
+
+  counts-stay : (n : ℕ) → ACTORS * last ≤ n → countsFrom m es ds s (ACTORS * last) ≡ countsFrom m es ds s n
+  unfolding countsFrom
+  counts-stay zero h = let e : ACTORS * last ≡ 0 = omega arith in ap (countsFrom m es ds s) e
+  counts-stay (suc n) h =
+      ⊎-elim (λ (e : ACTORS * last ≡ suc n). ap (countsFrom m es ds s) e)
+      (λ (l : ACTORS * last < suc n). rw (none-due n (le-of-suc-le-suc l)) (counts-stay n (le-of-suc-le-suc l))) (eq-or-lt-of-le h)
+
+  pub counts-all : Shallow ds → countsFrom m es ds s (ACTORS * last) ≡ countsFrom m es ds s (ACTORS * ACTORS)
+  counts-all shallow = counts-stay (ACTORS * ACTORS) (omega (arith, greatest-below ds last most ACTORS (omega arith) (shallow .below)))
 
 -- a cycle has some tokens, and not too many
 module _ (phases : ℕ) (rates : List ℕ) (p : ProperRates phases rates) (few : phases ≤ PHASES) where
@@ -70,6 +92,21 @@ module _ (m : Mode) (proper : ProperMode m) (k : ℕ) (h : k < m .count) where
 
   pub flow-some : 0 < madeOn m k .0
   flow-some = let c = proper .channel k h in cycle-some _ _ (c .production) (proper .actor _ (c .from) (c .from-active) .phases)
+
+-- the flow of a channel, as it is read
+module _ (f l : List ℕ) (stands : Stands f l) (k : ℕ) (h : k < headIn f .count) (c : Channel) (e : c ≡ channelIn l k) where
+  pub flow-read : (maker taker : Actor) (flow : Flow) → maker ≡ actorIn f (c .from) → taker ≡ actorIn f (c .to) → flow ≡ flowBetween c maker taker → flow ≡ flowOf (modeIn f l) k
+  flow-read maker taker flow p q r =
+      let m = modeIn f l in
+      let proper = channel-proper f l stands k h c e in
+      r
+      ∙ ap₂ (flowBetween c) (actor-read f l (c .from) maker (proper .from) p) (actor-read f l (c .to) taker (proper .to) q)
+      ∙ ap (λ (x : Channel). flowBetween x (actorAt m (x .from)) (actorAt m (x .to))) (channel-read f l stands k h c e)
+
+  pub ends-few : (maker taker : Actor) → maker ≡ actorIn f (c .from) → taker ≡ actorIn f (c .to) → (maker .phases ≤ PHASES) × (taker .phases ≤ PHASES)
+  ends-few maker taker p q =
+      let proper = channel-proper f l stands k h c e in
+      (phases-few f l stands _ maker (proper .from, proper .from-active) p, phases-few f l stands _ taker (proper .to, proper .to-active) q)
 
 -- the counts balance channel k
 abbrev pub Even : Mode → List ℕ → ℕ → Type 0

@@ -120,6 +120,7 @@ module _ (m : Mode) (proper : ProperMode m) where
         long = proper .actors-long;
         phases = λ i. ⊎-elim (λ a. proper .actor i (a .0) (a .1) .phases) (λ e. rw e zero-le) (active-or-none i);
         wcet = λ i. ⊎-elim (λ a. proper .actor i (a .0) (a .1) .wcet) (λ e. rw e zero-le) (active-or-none i);
+        processor = λ i. ⊎-elim (λ a. proper .actor i (a .0) (a .1) .processor) (λ e. rw e zero-le) (active-or-none i);
       }
 
   module _ (x : List ℕ) (counted : Counted m x) where

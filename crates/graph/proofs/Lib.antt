@@ -1,4 +1,5 @@
 -- What the proofs lean on.
+pub mod Lent
 pub mod Sorted
 mod Bounds
 mod Entries

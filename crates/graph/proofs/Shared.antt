@@ -3,13 +3,15 @@ use mathlib.Core.Path.{_≡_, refl, sym, ap, _∙_}
 use mathlib.Core.Bool.{Bool, true, false, cond, not, _&&_}
 use mathlib.Core.List.{List}
 use mathlib.Core.Logic.{⊎-elim, _↔_}
-use Prim.Native.Nat.{ℕ, zero, suc, _+_, _-_, _*_, _≤_, _<_, zero-le}
+use Prim.Native.Nat.{ℕ, zero, suc, _+_, _-_, _*_, _^_, _≤_, _<_, zero-le}
 use native.Mathlib.Nat.{le-refl, lt-of-lt-of-le, lt-of-not-le}
 use native.Mathlib.Numerals.{add-one}
 use native.Mathlib.Omega.{arith}
-use native.Mathlib.Decide.{decLe}
+use native.Mathlib.Decide.{decLe, ℕ-discrete}
+use borrow.Author.Tests.{eq-eqb, ne-eqb}
 use lib.Dec.{eqb}
-use lib.ListN.{getD}
+use lib.ListN.{length, getD, set, replicate, length-set}
+use lib.Seq.{getD-set-same, getD-set-other}
 use Rattle.numbers.specs.Bits.{hasb, has-decides}
 use Rattle.numbers.specs.Decides.{Decides, decides-unique, decides-not, decides-true, decides-false}
 use Rattle.numbers.specs.Extreme.{Least}
@@ -17,7 +19,7 @@ use Rattle.numbers.specs.Fraction.{Proper, AtMost, Same, sum-proper, sum-common
 use Rattle.numbers.specs.declared.fraction.Fraction.{Fraction}
 use Rattle.numbers.specs.Lowest.{FirstPasses, NonePasses, lowestOr, lowest-next, lowest-none, lowest-is, sought}
 use Rattle.numbers.specs.Sum.{sum}
-use Rattle.numbers.specs.Tab.{getD-tab}
+use Rattle.numbers.specs.Tab.{tab, getD-tab, length-tab, is-tab, tab-same}
 use Rattle.units.specs.declared.Tick.{Tick}
 use Rattle.units.specs.Ticks.{tick, plusTicks}
 use Rattle.units.specs.Bounds.{MOST-CYCLES}
@@ -51,14 +53,8 @@ over-next shares h p a r l e d =
     = ap (λ (f : Fraction). atMostb f LOAD-LIMIT) (sym e) ∙ decides-unique (atMostb a LOAD-LIMIT) r (at-most-decides a LOAD-LIMIT) d in
     lowest-next (overb shares h) PROCESSORS PROCESSORS p l ∙ rw test
 
--- one actor more, as a loop counts
-pub share-next : (acts : List Actor) (ws : List Tick) (p n : ℕ)
-    → shareFrom acts ws p (n + 1) ≡ cond (eqb (getD acts n noActor .processor) p) (plusTicks (shareFrom acts ws p n) (getD ws n (tick 0))) (shareFrom acts ws p n)
-unfolding shareFrom
-share-next acts ws p n = rw add-one
-
 -- the share of n actors is at most n works
-pub share-most : (acts : List Actor) (ws : List Tick) (p : ℕ) → Light ws → (n : ℕ) → shareFrom acts ws p n .0 ≤ n * (PHASES * MOST-CYCLES * MOST-WCET .0)
+share-most : (acts : List Actor) (ws : List Tick) (p : ℕ) → Light ws → (n : ℕ) → shareFrom acts ws p n .0 ≤ n * (PHASES * MOST-CYCLES * MOST-WCET .0)
 unfolding shareFrom
 share-most acts ws p light zero = omega arith
 share-most acts ws p light (suc n) = go (eqb (getD acts n noActor .processor) p) (share-most acts ws p light n)
@@ -67,6 +63,52 @@ share-most acts ws p light (suc n) = go (eqb (getD acts n noActor .processor) p)
         → cond b (plusTicks (shareFrom acts ws p n) (getD ws n (tick 0))) (shareFrom acts ws p n) .0 ≤ suc n * (PHASES * MOST-CYCLES * MOST-WCET .0)
     go true h = omega (arith, light .light n)
     go false h = omega arith
+
+-- the shares of all processors, by the actors below n
+abbrev pub sharesFrom : List Actor → List Tick → ℕ → List Tick
+sharesFrom acts ws n = tab PROCESSORS (λ p. shareFrom acts ws (numberOf p) n)
+
+pub shares-none : (acts : List Actor) (ws : List Tick) → replicate PROCESSORS (tick 0) ≡ sharesFrom acts ws 0
+unfolding tab shareFrom
+shares-none acts ws = refl
+
+-- one actor more, as a loop counts
+module _ (acts : List Actor) (ws : List Tick) (n : ℕ) where
+  share-next : (p : ℕ)
+      → shareFrom acts ws p (n + 1) ≡ cond (eqb (getD acts n noActor .processor) p) (plusTicks (shareFrom acts ws p n) (getD ws n (tick 0))) (shareFrom acts ws p n)
+  unfolding shareFrom
+  share-next p = rw add-one
+
+  -- one that is on no processor
+  pub shares-aside : getD acts n noActor .processor ≡ 0 → sharesFrom acts ws n ≡ sharesFrom acts ws (n + 1)
+  shares-aside e = tab-same PROCESSORS _ _ (λ p h. sym (share-next (numberOf p) ∙ rw (ne-eqb (getD acts n noActor .processor) (numberOf p) (λ q. omega arith))))
+
+  -- and one that is on the processor at place q
+  module _ (l : List Tick) (is : l ≡ sharesFrom acts ws n) (q : ℕ) (below : q < PROCESSORS) where
+    share-at : getD l q (tick 0) ≡ shareFrom acts ws (numberOf q) n
+    share-at = ap (λ (l : List Tick). getD l q (tick 0)) is ∙ getD-tab PROCESSORS (λ p. shareFrom acts ws (numberOf p) n) q (tick 0) below
+
+    pub share-fits : Light ws → n < ACTORS → getD l q (tick 0) .0 + getD ws n (tick 0) .0 < 2 ^ 64
+    share-fits light h = omega (arith, ap (λ (t : Tick). t .0) share-at, share-most acts ws (numberOf q) light n, light .light n)
+
+    pub shares-more : (v : Tick) → getD acts n noActor .processor ≡ numberOf q → v ≡ plusTicks (getD l q (tick 0)) (getD ws n (tick 0)) → set l q v ≡ sharesFrom acts ws (n + 1)
+    shares-more v on e = is-tab PROCESSORS _ (set l q v) (tick 0) (length-set l q v ∙ long) (λ p h. go p h (ℕ-discrete p q))
+      where
+        long : length l ≡ PROCESSORS
+        long = ap length is ∙ length-tab PROCESSORS (λ p. shareFrom acts ws (numberOf p) n)
+
+        go : (p : ℕ) → p < PROCESSORS → Dec (p ≡ q) → getD (set l q v) p (tick 0) ≡ shareFrom acts ws (numberOf p) (n + 1)
+        go p h (yes f) =
+            rw f
+            (getD-set-same l q v (tick 0) (omega (arith, long))
+            ∙ e
+            ∙ ap (λ (t : Tick). plusTicks t (getD ws n (tick 0))) share-at
+            ∙ sym (share-next (numberOf q) ∙ rw (eq-eqb (getD acts n noActor .processor) (numberOf q) on)))
+        go p h (no f) =
+            getD-set-other l q p v (tick 0) f
+            ∙ ap (λ (l : List Tick). getD l p (tick 0)) is
+            ∙ getD-tab PROCESSORS (λ p. shareFrom acts ws (numberOf p) n) p (tick 0) h
+            ∙ sym (share-next (numberOf p) ∙ rw (ne-eqb (getD acts n noActor .processor) (numberOf p) (λ g. f (omega arith))))
 
 module _ (m : Mode) (proper : ProperMode m) (x : List ℕ) (counted : Counted m x) where
   abbrev X : ℕ → ℕ

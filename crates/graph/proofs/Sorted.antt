@@ -1,5 +1,5 @@
 -- The order that the rounds find: the predecessor sets are the channels, and the depths are the greatest lengths of paths, unless there is a cycle. Assumes nothing.
-use mathlib.Core.Path.{_≡_, refl, sym, ap, subst, _∙_}
+use mathlib.Core.Path.{_≡_, refl, sym, ap, ap₂, subst, _∙_}
 use mathlib.Core.Bool.{Bool, true, false, cond, true≢false}
 use mathlib.Core.List.{List}
 use mathlib.Core.Logic.{_⊎_, inl, inr, ⊎-elim, _↔_}
@@ -7,11 +7,11 @@ use Prim.Native.Nat.{ℕ, zero, suc, _+_, _≤_, _<_, zero-le}
 use native.Mathlib.Nat.{lt-suc-self, lt-irrefl, lt-trans, not-suc-le-zero, le-of-suc-le-suc, eq-or-lt-of-le}
 use native.Mathlib.Numerals.{add-one}
 use native.Mathlib.Omega.{arith}
-use native.Mathlib.Decide.{ℕ-discrete}
+use native.Mathlib.Decide.{decLt, ℕ-discrete}
 use borrow.Author.Tests.{eqb-true}
 use lib.Bits.{bitAnd}
 use lib.Dec.{eqb}
-use lib.ListN.{length, getD, length-set, length-replicate}
+use lib.ListN.{length, getD, set, length-set, length-replicate, List·getD-eq-default}
 use lib.Seq.{getD-set-same, getD-set-other}
 use Rattle.numbers.specs.Bits.{bit, Has, hasb, Within, size, adding, has-or-not, has-decides, within-decides, has-adding, bit-adding-other, bit-removing-same, bit-removing-other, bit-zero, has-below, outside, some-has, size-none, none-size, size-most, size-adding}
 use Rattle.numbers.specs.Decides.{Decides, decides-and, decides-true, decides-false}
@@ -27,9 +27,10 @@ use Rattle.graph.specs.Ends.{IsSource}
 use Rattle.graph.specs.Rounds.{joined, predsFrom, predsOf, moved, ready, roundFrom, unordered, orderFrom, orderOf}
 
 -- one channel, one actor and one round more, as a loop counts
-pub preds-next : (m : Mode) (n : ℕ) → predsFrom m (n + 1) ≡ joined (predsFrom m n) (channelAt m n)
+pub preds-next : (m : Mode) (n : ℕ) (ps : List ℕ) (c : Channel) (w : ℕ) → ps ≡ predsFrom m n → c ≡ channelAt m n → w ≡ adding (getD ps (c .to) 0) (c .from)
+    → set ps (c .to) w ≡ predsFrom m (n + 1)
 unfolding predsFrom
-preds-next m n = rw add-one
+preds-next m n ps c w e f g = ap (set ps (c .to)) g ∙ ap₂ joined e f ∙ rw add-one
 
 pub round-next : (ps : List ℕ) (o : Order) (d n : ℕ)
     → roundFrom ps o d (n + 1) ≡ cond (ready ps o n) (moved (roundFrom ps o d n) n d) (roundFrom ps o d n)
@@ -308,6 +309,16 @@ module _ (m : Mode) (proper : ProperMode m) where
       deeper : {j i : ℕ} → Path m j i → getD ds j 0 < getD ds i 0
       deeper (one e) = behind e
       deeper (more e p) = lt-trans (behind e) (deeper p)
+
+  -- and all depths are below the number of actors that there can be
+  pub ranked-below : (ds : List ℕ) → Ranked m ds → (i : ℕ) → getD ds i 0 < ACTORS
+  ranked-below ds r i = go (decLt i ACTORS)
+    where
+      go : Dec (i < ACTORS) → getD ds i 0 < ACTORS
+      go (no l) = omega (arith, List·getD-eq-default ds 0 {n = i} (omega (arith, r .long)))
+      go (yes l) =
+          ⊎-elim (λ (y : Has (m .active) i). depth-below i (getD ds i 0) (l, y) (r .depth i (l, y)) (ranked-acyclic ds r))
+          (λ (z : bit (m .active) i ≡ 0). omega (arith, r .no-depth i l (λ a. omega (arith, a .1)))) (has-or-not (m .active) i)
 
   pub order-acyclic : sorted m .left ≡ 0 → Cyclic m → ⊥
   order-acyclic e = ranked-acyclic (sorted m .depths) (order-ranked e)

@@ -34,6 +34,11 @@ pub record Counted (m : Mode) (x : List ℕ) : Type 0 where
   pub small : Small x
   pub some : (i : ℕ) → Active m i → 1 ≤ getD x i 0
 
+-- depths below the number of actors that there can be
+pub record Shallow (ds : List ℕ) : Type 0 where
+  pub long : length ds ≡ ACTORS
+  pub below : (i : ℕ) → getD ds i 0 < ACTORS
+
 -- a flow between actors that take
 pub record FlowIn (f : Flow) : Type 0 where
   pub from : f .from < ACTORS

@@ -31,6 +31,7 @@ pub record Fitting (acts : List Actor) : Type 0 where
   pub long : length acts ≡ ACTORS
   pub phases : (i : ℕ) → getD acts i noActor .phases ≤ PHASES
   pub wcet : (i : ℕ) → getD acts i noActor .wcet .0 ≤ MOST-WCET .0
+  pub processor : (i : ℕ) → getD acts i noActor .processor ≤ PROCESSORS
 
 -- firings of cycle counts within the limit
 pub record Few (qs : List Firing) : Type 0 where

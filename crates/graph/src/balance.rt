@@ -1,8 +1,11 @@
 // The smallest cycle counts that balance a mode's channels.
 use bits::has;
+use numbers::extreme::greatest;
 use tables::Actor;
 use tables::Channel;
-use tables::Mode;
+use tables::memory::actor_at;
+use tables::memory::channel_at;
+use tables::memory::head_of;
 use units::Token;
 use units::bounds::MOST_CYCLES;
 use units::limits::ACTORS;
@@ -11,9 +14,9 @@ ghost use mathlib.Core.Path.{_≡_};
 ghost use Prim.Native.Nat.{_*_, _<_, _≤_};
 ghost use lib.ListN.{length};
 ghost use Rattle.units.specs.Limits.{ACTORS, PHASES};
-ghost use Rattle.tables.specs.Proper.{ProperMode};
+ghost use Rattle.tables.specs.Memory.{headIn, modeIn, Stands};
 ghost use Rattle.graph.specs.Balance.{cycleSum};
-ghost use Rattle.graph.specs.Counts.{MOST-TOKENS, Small, FlowIn, Entered, flowBetween, entriesOf, aboveLimit, scaledOf, fedOf, countsFrom, balancesb};
+ghost use Rattle.graph.specs.Counts.{MOST-TOKENS, Small, FlowIn, Shallow, Entered, flowBetween, entriesOf, aboveLimit, scaledOf, fedOf, countsFrom, balancesb};
 
 // A channel by its producer and the tokens that a cycle of the one makes and a cycle of the other takes.
 pub(crate) struct Flow {
@@ -50,15 +53,16 @@ fn flow_of(channel: Channel, maker: Actor, taker: Actor) -> Flow
 }
 
 // For each actor its first incoming channel; 0 where it has none.
-pub(crate) fn entries_of(mode: Mode) -> [usize; ACTORS]
-    requires { ⌜ ProperMode mode ⌝ }
-    ensures { λ r. ⌜ r ≡ entriesOf mode ⌝ }
+pub(crate) fn entries_of(front: &[u64], channels: &[u8]) -> [usize; ACTORS]
+    requires { ⌜ Stands (now front) (now channels) ⌝ }
+    ensures { λ r. ⌜ r ≡ entriesOf (modeIn (now (front .entry)) (now (channels .entry))) ⌝ }
 {
+    let head = head_of(front);
     let mut entries = [0usize; ACTORS];
-    let mut k = mode.count;
+    let mut k = head.count;
     while 0 < k {
         k -= 1;
-        let channel = mode.channels[k];
+        let channel = channel_at(channels, k);
         let to = channel.to;
         entries[to] = k;
     }
@@ -116,25 +120,29 @@ fn fed(now: Counts, flow: Flow, i: usize) -> Counts
 
 // The source runs one cycle, and the others follow by depth, and within a depth by place.
 pub(crate) fn counts_of(
-    mode: Mode,
+    front: &[u64],
+    channels: &[u8],
     entries: [usize; ACTORS],
     depths: [usize; ACTORS],
     source: usize,
 ) -> Counts
-    requires { ⌜ ProperMode mode × (length entries ≡ ACTORS) × (length depths ≡ ACTORS) × Entered mode entries depths × (source < ACTORS) ⌝ }
-    ensures { λ r. ⌜ r ≡ countsFrom mode entries depths source (ACTORS * ACTORS) ⌝ }
+    requires { ⌜ Stands (now front) (now channels) × (length entries ≡ ACTORS) × Shallow depths × Entered (modeIn (now front) (now channels)) entries depths × (source < ACTORS) ⌝ }
+    ensures { λ r. ⌜ r ≡ countsFrom (modeIn (now (front .entry)) (now (channels .entry))) entries depths source (ACTORS * ACTORS) ⌝ }
 {
+    let head = head_of(front);
+    let last = greatest(&depths);
     let mut counts = [0u64; ACTORS];
     counts[source] = 1;
     let mut now = Counts { good: true, counts };
-    for n in 0..ACTORS * ACTORS {
+    for n in 0..ACTORS * last {
         let i = n % ACTORS;
-        if has(mode.active, i) {
+        if has(head.active, i) {
             if depths[i] == n / ACTORS + 1 {
                 let entry = entries[i];
-                let channel = mode.channels[entry];
-                let from = channel.from;
-                now = fed(now, flow_of(channel, mode.actors[from], mode.actors[i]), i);
+                let channel = channel_at(channels, entry);
+                let maker = actor_at(front, channel.from);
+                let taker = actor_at(front, i);
+                now = fed(now, flow_of(channel, maker, taker), i);
             }
         }
     }
@@ -142,15 +150,16 @@ pub(crate) fn counts_of(
 }
 
 // Whether the counts balance each channel.
-pub(crate) fn balances(mode: Mode, counts: [u64; ACTORS]) -> bool
-    requires { ⌜ ProperMode mode × Small counts ⌝ }
-    ensures { λ r. ⌜ r ≡ balancesb mode counts (mode .count) ⌝ }
+pub(crate) fn balances(front: &[u64], channels: &[u8], counts: [u64; ACTORS]) -> bool
+    requires { ⌜ Stands (now front) (now channels) × Small counts ⌝ }
+    ensures { λ r. ⌜ r ≡ balancesb (modeIn (now (front .entry)) (now (channels .entry))) counts (headIn (now (front .entry)) .count) ⌝ }
 {
-    for k in 0..mode.count {
-        let channel = mode.channels[k];
+    let head = head_of(front);
+    for k in 0..head.count {
+        let channel = channel_at(channels, k);
         let from = channel.from;
         let to = channel.to;
-        let flow = flow_of(channel, mode.actors[from], mode.actors[to]);
+        let flow = flow_of(channel, actor_at(front, from), actor_at(front, to));
         if !rate::even(counts[from], flow.made, counts[to], flow.taken) {
             return false;
         }

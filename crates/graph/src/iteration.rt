@@ -3,6 +3,7 @@ use bits::has;
 use period::Firings;
 use period::Length;
 use tables::Actor;
+use tables::memory::actor_at;
 use units::Firing;
 use units::Tick;
 use units::bounds::MOST_FIRINGS;
@@ -10,9 +11,28 @@ use units::limits::ACTORS;
 use units::limits::ITERATION_LIMIT;
 ghost use mathlib.Core.Path.{_≡_};
 ghost use lib.ListN.{length};
+ghost use Rattle.numbers.specs.Tab.{tab};
 ghost use Rattle.units.specs.Limits.{ACTORS};
+ghost use Rattle.tables.specs.Memory.{FRONT-WORDS, actorIn};
 ghost use Rattle.graph.specs.Counts.{Small};
 ghost use Rattle.graph.specs.Lengths.{Fitting, Few, Fires, firingsIn, worksIn, mostFrom, commonFrom, lengthOf as lengthIn, periodsIn};
+
+// All actors.
+pub(crate) fn actors_of(front: &[u64]) -> [Actor; ACTORS]
+    requires { ⌜ length (now front) ≡ FRONT-WORDS ⌝ }
+    ensures { λ r. ⌜ r ≡ tab ACTORS (actorIn (now (front .entry))) ⌝ }
+{
+    let none = Actor {
+        phases: 0,
+        wcet: Tick::NONE,
+        processor: 0,
+    };
+    let mut actors = [none; ACTORS];
+    for i in 0..ACTORS {
+        actors[i] = actor_at(front, i);
+    }
+    actors
+}
 
 // The firings of each actor in an iteration: phases times cycle count.
 pub(crate) fn firings_of(actors: [Actor; ACTORS], counts: [u64; ACTORS]) -> [Firing; ACTORS]

@@ -7,14 +7,16 @@ mod order;
 
 use bits::size;
 use period::Length;
-use tables::Mode;
+use tables::memory::head_of;
 use units::Firing;
 use units::Tick;
 use units::limits::ACTORS;
 use units::limits::PROCESSORS;
 ghost use mathlib.Core.Path.{_≡_};
+ghost use mathlib.Core.List.{List};
+ghost use Prim.Native.Nat.{ℕ};
 ghost use Rattle.tables.specs.Shape.{Active};
-ghost use Rattle.tables.specs.Proper.{ProperMode};
+ghost use Rattle.tables.specs.Memory.{modeIn, Stands};
 ghost use Rattle.graph.specs.Ends.{Ends};
 ghost use Rattle.graph.specs.Nothing.{refusedBy};
 ghost use Rattle.graph.specs.Judged.{Judged};
@@ -56,19 +58,20 @@ fn refused(verdict: Verdict) -> Judgement
     }
 }
 
-// A mode whose order and ends are known, with its smallest cycle counts: its iteration and its load.
+// A mode whose order and ends are known, with its smallest cycle counts: its iteration and its load, whatever its channels l.
 fn timed(
-    mode: Mode,
+    front: &[u64],
     depths: [usize; ACTORS],
     source: usize,
     sink: usize,
     counts: [u64; ACTORS],
 ) -> Judgement
-    requires { ⌜ ProperMode mode × Counted mode counts × Active mode source ⌝ }
-    ensures { λ r. ⌜ r ≡ timedOf mode depths source sink counts ⌝ }
+    requires { ⌜ ((l : List ℕ) × Stands (now front) l × Counted (modeIn (now front) l) counts × Active (modeIn (now front) l) source) ⌝ }
+    ensures { λ r. ⌜ ((l : List ℕ) → r ≡ timedOf (modeIn (now (front .entry)) l) depths source sink counts) ⌝ }
 {
-    let active = mode.active;
-    let actors = mode.actors;
+    let head = head_of(front);
+    let active = head.active;
+    let actors = iteration::actors_of(front);
     let firings = iteration::firings_of(actors, counts);
     let works = iteration::works_of(actors, firings);
     let Length::Is(iteration) = iteration::length_of(works, firings, active) else {
@@ -91,29 +94,36 @@ fn timed(
 }
 
 // A mode whose order and ends are known: its balance.
-fn balanced(mode: Mode, depths: [usize; ACTORS], source: usize, sink: usize) -> Judgement
-    requires { ⌜ ProperMode mode × Ranked mode depths × Ends mode source sink ⌝ }
-    ensures { λ r. ⌜ r ≡ balancedOf mode depths source sink ⌝ }
+fn balanced(
+    front: &[u64],
+    channels: &[u8],
+    depths: [usize; ACTORS],
+    source: usize,
+    sink: usize,
+) -> Judgement
+    requires { ⌜ Stands (now front) (now channels) × Ranked (modeIn (now front) (now channels)) depths × Ends (modeIn (now front) (now channels)) source sink ⌝ }
+    ensures { λ r. ⌜ r ≡ balancedOf (modeIn (now (front .entry)) (now (channels .entry))) depths source sink ⌝ }
 {
-    let entries = balance::entries_of(mode);
-    let found = balance::counts_of(mode, entries, depths, source);
+    let entries = balance::entries_of(front, channels);
+    let found = balance::counts_of(front, channels, entries, depths, source);
     if !found.good {
         return refused(Verdict::Unbalanced);
     }
     let counts = found.counts;
-    if !balance::balances(mode, counts) {
+    if !balance::balances(front, channels, counts) {
         return refused(Verdict::Unbalanced);
     }
-    timed(mode, depths, source, sink, counts)
+    timed(front, depths, source, sink, counts)
 }
 
 // Judges a mode.
-pub fn judge(mode: Mode) -> Judgement
-    requires { ⌜ ProperMode mode ⌝ }
-    ensures { λ r. ⌜ Judged mode r ⌝ }
+pub fn judge(front: &[u64], channels: &[u8]) -> Judgement
+    requires { ⌜ Stands (now front) (now channels) ⌝ }
+    ensures { λ r. ⌜ Judged (modeIn (now (front .entry)) (now (channels .entry))) r ⌝ }
 {
-    let active = mode.active;
-    let preds = order::preds_of(mode);
+    let head = head_of(front);
+    let active = head.active;
+    let preds = order::preds_of(front, channels);
     let order = order::order_of(preds, active);
     if order.left != 0 {
         return refused(Verdict::Cyclic);
@@ -127,5 +137,11 @@ pub fn judge(mode: Mode) -> Judgement
         return refused(Verdict::Ends);
     }
     let depths = order.depths;
-    balanced(mode, depths, ends::lowest(firsts), ends::lowest(lasts))
+    balanced(
+        front,
+        channels,
+        depths,
+        ends::lowest(firsts),
+        ends::lowest(lasts),
+    )
 }

@@ -1,7 +1,6 @@
 // What the actors of a mode ask of the processors.
 use numbers::fraction::at_most;
 use tables::Actor;
-use terms::place::number_of;
 use units::Tick;
 use units::limits::ACTORS;
 use units::limits::LOAD_LIMIT;
@@ -9,31 +8,21 @@ use units::limits::PROCESSORS;
 ghost use mathlib.Core.Path.{_≡_};
 ghost use Prim.Native.Nat.{_<_};
 ghost use lib.ListN.{length};
-ghost use Rattle.units.specs.Limits.{ACTORS, PROCESSORS};
-ghost use Rattle.graph.specs.Lengths.{Light, shareFrom, sharesIn, overloadedOf};
+ghost use Rattle.units.specs.Limits.{PROCESSORS};
+ghost use Rattle.graph.specs.Lengths.{Fitting, Light, sharesIn, overloadedOf};
 
-// The ticks of an iteration that a processor works.
-fn share_of(actors: [Actor; ACTORS], works: [Tick; ACTORS], processor: usize) -> Tick
-    requires { ⌜ (length actors ≡ ACTORS) × Light works ⌝ }
-    ensures { λ r. ⌜ r ≡ shareFrom actors works processor ACTORS ⌝ }
-{
-    let mut share = Tick::NONE;
-    for i in 0..ACTORS {
-        let actor = actors[i];
-        if actor.processor == processor {
-            share = share.plus(works[i]);
-        }
-    }
-    share
-}
-
+// The ticks of an iteration that each processor works.
 pub(crate) fn shares_of(actors: [Actor; ACTORS], works: [Tick; ACTORS]) -> [Tick; PROCESSORS]
-    requires { ⌜ (length actors ≡ ACTORS) × Light works ⌝ }
+    requires { ⌜ Fitting actors × Light works ⌝ }
     ensures { λ r. ⌜ r ≡ sharesIn actors works ⌝ }
 {
     let mut shares = [Tick::NONE; PROCESSORS];
-    for p in 0..PROCESSORS {
-        shares[p] = share_of(actors, works, number_of(p) as usize);
+    for i in 0..ACTORS {
+        let actor = actors[i];
+        if actor.processor != 0 {
+            let p = actor.processor - 1;
+            shares[p] = shares[p].plus(works[i]);
+        }
     }
     shares
 }

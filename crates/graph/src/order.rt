@@ -4,13 +4,14 @@ use bits::size;
 use bits::with;
 use bits::within;
 use bits::without;
-use tables::Mode;
+use tables::memory::channel_at;
+use tables::memory::head_of;
 use units::limits::ACTORS;
 ghost use mathlib.Core.Path.{_≡_};
 ghost use Prim.Native.Nat.{_<_};
 ghost use lib.ListN.{length};
 ghost use Rattle.units.specs.Limits.{ACTORS};
-ghost use Rattle.tables.specs.Proper.{ProperMode};
+ghost use Rattle.tables.specs.Memory.{modeIn, Stands};
 ghost use Rattle.graph.specs.Rounds.{predsOf, moved as movedOf, roundFrom, orderOf};
 
 // The actors that are done, those that are left, and the depths of those that are done.
@@ -21,13 +22,14 @@ pub(crate) struct Order {
 }
 
 // For each actor the set of those from which channels lead to it.
-pub(crate) fn preds_of(mode: Mode) -> [u16; ACTORS]
-    requires { ⌜ ProperMode mode ⌝ }
-    ensures { λ r. ⌜ r ≡ predsOf mode ⌝ }
+pub(crate) fn preds_of(front: &[u64], channels: &[u8]) -> [u16; ACTORS]
+    requires { ⌜ Stands (now front) (now channels) ⌝ }
+    ensures { λ r. ⌜ r ≡ predsOf (modeIn (now (front .entry)) (now (channels .entry))) ⌝ }
 {
+    let head = head_of(front);
     let mut preds = [0u16; ACTORS];
-    for k in 0..mode.count {
-        let channel = mode.channels[k];
+    for k in 0..head.count {
+        let channel = channel_at(channels, k);
         let to = channel.to;
         preds[to] = with(preds[to], channel.from);
     }

@@ -1,2 +1,4 @@
 -- What the proofs lean on.
+pub mod Laying
+pub mod Planned
 mod Settled

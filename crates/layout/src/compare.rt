@@ -1,21 +1,19 @@
-// A buffer is compared with what would be written, part by part.
-use crate::store;
-use crate::store::CHANGES;
-use crate::store::CHANGES_WORDS;
-use crate::store::MODE_WORDS;
+// Words are compared with what would be written.
+use crate::CARRIED_WORDS;
+use crate::CHANGE_WORDS;
+use crate::MODE_WORDS;
+use crate::store::copy;
+use crate::store::put_change;
+use crate::store::put_mode;
+use crate::store::put_part;
 use change::Timing;
 use planning::ModePlan;
-use planning::Plan;
-use tables::Mode;
-use tables::Table;
-use units::limits::MODES;
+use tables::memory::FRONT_WORDS;
 ghost use mathlib.Core.Path.{_≡_};
-ghost use Prim.Native.Nat.{_*_};
-ghost use lib.ListN.{length, replicate};
+ghost use lib.ListN.{length, take, replicate};
 ghost use Rattle.numbers.specs.Decides.{Decides};
-ghost use Rattle.units.specs.Limits.{MODES};
-ghost use Rattle.layout.specs.Blocks.{timedBy};
-ghost use Rattle.layout.specs.Words.{CHANGES, MODE-WORDS, CHANGE-WORDS, modeWords, modesWords, changesWords};
+ghost use Rattle.tables.specs.Memory.{FRONT-WORDS, CHANNELS-BYTES, modeIn};
+ghost use Rattle.layout.specs.Words.{MODE-WORDS, CHANGE-WORDS, modeWords, changeWords};
 
 // Whether two lists of words are the same.
 fn same(a: &[u64], b: &[u64]) -> bool
@@ -30,39 +28,27 @@ fn same(a: &[u64], b: &[u64]) -> bool
     true
 }
 
-// Whether these are the words of a mode with what is planned of it.
-pub fn mode_holds(mode: Mode, part: ModePlan, words: &[u64]) -> bool
-    requires { ⌜ length (now words) ≡ MODE-WORDS ⌝ }
-    ensures { λ r. ⌜ Decides (now (words .entry) ≡ modeWords mode part) r ⌝ }
+// Whether words are those of the mode whose front they begin with and whose channels these are, with what is planned of it.
+pub fn mode_holds(words: &[u64], channels: &[u8], part: ModePlan) -> bool
+    requires { ⌜ (length (now words) ≡ MODE-WORDS) × (length (now channels) ≡ CHANNELS-BYTES) ⌝ }
+    ensures { λ r. ⌜ Decides (now (words .entry) ≡ modeWords (modeIn (take FRONT-WORDS (now (words .entry))) (now (channels .entry))) part) r ⌝ }
 {
+    let mut front = [0u64; FRONT_WORDS];
+    let mut carried = [0u64; CARRIED_WORDS];
     let mut fresh = [0u64; MODE_WORDS];
-    store::put_mode(mode, part, &mut fresh);
+    copy(&words[0..FRONT_WORDS], &mut front);
+    put_part(part, &mut front, &mut carried);
+    put_mode(&front, channels, &carried, &mut fresh);
     same(words, &fresh)
 }
 
-pub(crate) fn modes_hold(table: Table, plan: Plan, words: &[u64]) -> bool
-    requires { ⌜ length (now words) ≡ MODE-WORDS * MODES ⌝ }
-    ensures { λ r. ⌜ Decides (now (words .entry) ≡ modesWords table plan) r ⌝ }
+// Whether these are the words of a change.
+pub fn change_holds(timing: Timing, words: &[u64]) -> bool
+    requires { ⌜ length (now words) ≡ CHANGE-WORDS ⌝ }
+    ensures { λ r. ⌜ Decides (now (words .entry) ≡ changeWords timing) r ⌝ }
 {
-    for m in 0..MODES {
-        let a = MODE_WORDS * m;
-        let e = a + MODE_WORDS;
-        let mode = table.modes[m];
-        let part = plan.parts[m];
-        if !mode_holds(mode, part, &words[a..e]) {
-            return false;
-        }
-    }
-    true
-}
-
-// Whether these are the words of the changes.
-pub fn changes_hold(changes: [Timing; CHANGES], words: &[u64]) -> bool
-    requires { ⌜ (length (now words) ≡ CHANGE-WORDS * CHANGES) × (length changes ≡ CHANGES) ⌝ }
-    ensures { λ r. ⌜ Decides (now (words .entry) ≡ changesWords (timedBy changes)) r ⌝ }
-{
-    let mut fresh = [0u64; CHANGES_WORDS];
-    store::put_changes(changes, &mut fresh);
+    let mut fresh = [0u64; CHANGE_WORDS];
+    put_change(timing, &mut fresh);
     same(words, &fresh)
 }
 

@@ -1,141 +1,66 @@
-// A table is read from words: each function is lent the part that it reads.
-use crate::store::ACTOR_WORDS;
-use crate::store::ACTORS_AT;
-use crate::store::CHANGE_WORDS;
-use crate::store::CHANNEL_WORDS;
-use crate::store::CHANNELS_AT;
-use crate::store::CONSUMPTION_AT;
-use crate::store::MODE_WORDS;
-use crate::store::OFFSET_AT;
-use crate::store::PRODUCTION_AT;
-use crate::store::SIZE_AT;
-use crate::store::START_AT;
-use tables::Actor;
-use tables::Channel;
-use tables::Mode;
+// What words hold: each function is lent the part that it reads.
+use crate::CHANGE_WORDS;
+use crate::CHANNEL_WORDS;
+use change::Timing;
+use tables::memory::CHANNEL_BYTES;
+use tables::memory::FRONT_WORDS;
+use tables::memory::head_of;
+use tables::memory::times_at;
 use units::Tick;
-use units::limits::ACTORS;
+use units::Token;
 use units::limits::CHANNELS;
-use units::limits::PHASES;
 ghost use mathlib.Core.Path.{_≡_};
 ghost use Prim.Native.Nat.{_+_, _*_, _<_};
 ghost use lib.ListN.{length, getD};
-ghost use Rattle.units.specs.Limits.{ACTORS, CHANNELS, PHASES};
-ghost use Rattle.tables.specs.Shape.{noActor, emptyChannel, emptyMode};
+ghost use Rattle.units.specs.Limits.{ACTORS, CHANNELS as CHANNELS-LIMIT};
 ghost use Rattle.units.specs.Ticks.{tick};
-ghost use Rattle.layout.specs.Words.{CHANGES, ACTOR-WORDS, CHANNEL-WORDS, MODE-WORDS, CHANGE-WORDS};
-ghost use Rattle.layout.specs.Blocks.{paceOf};
-ghost use Rattle.layout.specs.Read.{actorOf, ratesOf, channelOf, actorsOf, channelsOf, modeOf};
+ghost use Rattle.tables.specs.Memory.{CHANNEL-BYTES, CHANNELS-BYTES};
+ghost use Rattle.layout.specs.Words.{CHANGES, CHANNEL-WORDS, MODE-WORDS, CHANGE-WORDS};
+ghost use Rattle.layout.specs.Read.{cutBytes, bytesIn};
+ghost use Rattle.layout.specs.Blocks.{linkOf, paceOf, timingOf};
 
-// How many sets of actors there are.
-const SETS: u64 = 1 << ACTORS;
-
-fn no_actor() -> Actor
-    ensures { λ r. ⌜ r ≡ noActor ⌝ }
+// The bytes of a channel, each cut to what a byte holds.
+fn bytes_of(words: &[u64], bytes: &mut [u8])
+    requires { ⌜ (length (now words) ≡ CHANNEL-WORDS) × (length (now bytes) ≡ CHANNEL-BYTES) ⌝ }
+    ensures { λ _. ⌜ now (bytes .exit) ≡ cutBytes (now (words .entry)) ⌝ }
 {
-    Actor {
-        phases: 0,
-        wcet: Tick::NONE,
-        processor: 0,
+    for k in 0..CHANNEL_BYTES {
+        bytes[k] = (words[k] % 256) as u8;
     }
 }
 
-fn no_channel() -> Channel
-    ensures { λ r. ⌜ r ≡ emptyChannel ⌝ }
+// The bytes of all channels, from the words behind a mode's front.
+pub fn channels_of(words: &[u64], channels: &mut [u8])
+    requires { ⌜ (length (now words) ≡ CHANNEL-WORDS * CHANNELS-LIMIT) × (length (now channels) ≡ CHANNELS-BYTES) ⌝ }
+    ensures { λ _. ⌜ now (channels .exit) ≡ bytesIn (now (words .entry)) ⌝ }
 {
-    Channel {
-        from: 0,
-        to: 0,
-        production: [0; PHASES],
-        consumption: [0; PHASES],
-    }
-}
-
-pub(crate) fn no_mode() -> Mode
-    ensures { λ r. ⌜ r ≡ emptyMode ⌝ }
-{
-    Mode {
-        active: 0,
-        count: 0,
-        actors: [no_actor(); ACTORS],
-        channels: [no_channel(); CHANNELS],
-    }
-}
-
-fn actor_of(words: &[u64]) -> Actor
-    requires { ⌜ length (now words) ≡ ACTOR-WORDS ⌝ }
-    ensures { λ r. ⌜ r ≡ actorOf (now (words .entry)) ⌝ }
-{
-    Actor {
-        phases: words[0] as usize,
-        wcet: Tick::of(words[1]),
-        processor: words[2] as usize,
-    }
-}
-
-fn actors_of(words: &[u64]) -> [Actor; ACTORS]
-    requires { ⌜ length (now words) ≡ ACTOR-WORDS * ACTORS ⌝ }
-    ensures { λ r. ⌜ r ≡ actorsOf (now (words .entry)) ⌝ }
-{
-    let mut actors = [no_actor(); ACTORS];
-    for i in 0..ACTORS {
-        let a = ACTOR_WORDS * i;
-        let e = a + ACTOR_WORDS;
-        actors[i] = actor_of(&words[a..e]);
-    }
-    actors
-}
-
-fn rates_of(words: &[u64]) -> [u8; PHASES]
-    requires { ⌜ length (now words) ≡ PHASES ⌝ }
-    ensures { λ r. ⌜ r ≡ ratesOf (now (words .entry)) ⌝ }
-{
-    let mut rates = [0u8; PHASES];
-    for k in 0..PHASES {
-        rates[k] = (words[k] % 256) as u8;
-    }
-    rates
-}
-
-fn channel_of(words: &[u64]) -> Channel
-    requires { ⌜ length (now words) ≡ CHANNEL-WORDS ⌝ }
-    ensures { λ r. ⌜ r ≡ channelOf (now (words .entry)) ⌝ }
-{
-    let production = rates_of(&words[PRODUCTION_AT..CONSUMPTION_AT]);
-    let consumption = rates_of(&words[CONSUMPTION_AT..SIZE_AT]);
-    Channel {
-        from: words[0] as usize,
-        to: words[1] as usize,
-        production,
-        consumption,
-    }
-}
-
-fn channels_of(words: &[u64]) -> [Channel; CHANNELS]
-    requires { ⌜ length (now words) ≡ CHANNEL-WORDS * CHANNELS ⌝ }
-    ensures { λ r. ⌜ r ≡ channelsOf (now (words .entry)) ⌝ }
-{
-    let mut channels = [no_channel(); CHANNELS];
     for k in 0..CHANNELS {
         let a = CHANNEL_WORDS * k;
-        let e = a + CHANNEL_WORDS;
-        channels[k] = channel_of(&words[a..e]);
+        let b = a + CHANNEL_WORDS;
+        let c = CHANNEL_BYTES * k;
+        let d = c + CHANNEL_BYTES;
+        bytes_of(&words[a..b], &mut channels[c..d]);
     }
-    channels
 }
 
-// The mode that its words hold.
-pub fn mode_of(words: &[u64]) -> Mode
-    requires { ⌜ length (now words) ≡ MODE-WORDS ⌝ }
-    ensures { λ r. ⌜ r ≡ modeOf (now (words .entry)) ⌝ }
+// A channel as it is planned: the places of its actors, its size, and the tokens that it carries in an iteration.
+pub struct Link {
+    pub from: usize,
+    pub to: usize,
+    pub size: Token,
+    pub tokens: Token,
+}
+
+// The channel that its words hold, each place cut to what a byte holds.
+pub fn link_of(words: &[u64]) -> Link
+    requires { ⌜ length (now words) ≡ CHANNEL-WORDS ⌝ }
+    ensures { λ r. ⌜ r ≡ linkOf (now (words .entry)) ⌝ }
 {
-    let actors = actors_of(&words[ACTORS_AT..CHANNELS_AT]);
-    let channels = channels_of(&words[CHANNELS_AT..MODE_WORDS]);
-    Mode {
-        active: (words[0] % SETS) as u16,
-        count: words[1] as usize,
-        actors,
-        channels,
+    Link {
+        from: (words[0] % 256) as usize,
+        to: (words[1] % 256) as usize,
+        size: Token::of(words[CHANNEL_BYTES]),
+        tokens: Token::of(words[CHANNEL_BYTES + 1]),
     }
 }
 
@@ -151,12 +76,26 @@ pub fn pace_of(words: &[u64]) -> Pace
     requires { ⌜ (length (now words) ≡ MODE-WORDS) × (getD (now words) 4 0 < ACTORS) ⌝ }
     ensures { λ r. ⌜ r ≡ paceOf (now (words .entry)) ⌝ }
 {
-    let sink = words[4] as usize;
-    let at = ACTORS_AT + (ACTOR_WORDS * sink + START_AT);
+    let head = head_of(&words[0..FRONT_WORDS]);
+    let times = times_at(&words[0..FRONT_WORDS], head.sink);
+    let iteration = head.iteration;
+    let sink_start = times.start;
     Pace {
         listed: words[0] != 0,
-        iteration: Tick::of(words[2]),
-        sink_start: Tick::of(words[at]),
+        iteration,
+        sink_start,
+    }
+}
+
+// The change that its words hold.
+pub fn timing_of(words: &[u64]) -> Timing
+    requires { ⌜ length (now words) ≡ CHANGE-WORDS ⌝ }
+    ensures { λ r. ⌜ r ≡ timingOf (now (words .entry)) ⌝ }
+{
+    Timing {
+        overlap: Tick::of(words[0]),
+        offset: Tick::of(words[1]),
+        worst: Tick::of(words[2]),
     }
 }
 
@@ -165,6 +104,6 @@ pub fn offset_of(words: &[u64], place: usize) -> Tick
     requires { ⌜ (length (now words) ≡ CHANGE-WORDS * CHANGES) × (place < CHANGES) ⌝ }
     ensures { λ r. ⌜ r ≡ tick (getD (now (words .entry)) (CHANGE-WORDS * place + 1) 0) ⌝ }
 {
-    let at = CHANGE_WORDS * place + OFFSET_AT;
+    let at = CHANGE_WORDS * place + 1;
     Tick::of(words[at])
 }

@@ -1,157 +1,158 @@
 // The words are written: each function is lent the part that it fills.
+use crate::CHANNEL_WORDS;
+use crate::MODE_WORDS;
 use change::Timing;
 use planning::ModePlan;
-use planning::Plan;
-use tables::Actor;
-use tables::Channel;
-use tables::Mode;
-use tables::Table;
-use units::Firing;
-use units::Tick;
+use tables::memory::ACTOR_WORDS;
+use tables::memory::CHANNEL_BYTES;
+use tables::memory::FRONT_WORDS;
+use tables::memory::HEAD_WORDS;
+use tables::memory::Head;
+use tables::memory::Times;
+use tables::memory::head_of;
 use units::Token;
 use units::limits::ACTORS;
 use units::limits::CHANNELS;
-use units::limits::MODES;
-use units::limits::PHASES;
 ghost use mathlib.Core.Path.{_≡_};
+ghost use mathlib.Core.List.{[], _∷_, _++_};
 ghost use Prim.Native.Nat.{_*_};
 ghost use lib.ListN.{length};
-ghost use Rattle.units.specs.Limits.{MODES, ACTORS, CHANNELS, PHASES};
 ghost use Rattle.numbers.specs.Joined.{joined};
-ghost use Rattle.layout.specs.Blocks.{timedBy};
-ghost use Rattle.layout.specs.Words.{CHANGES, HEAD-WORDS, ACTOR-WORDS, CHANNEL-WORDS, MODE-WORDS, CHANGE-WORDS, headWords, actorWords, rateWords, channelWords, actorWordsAt, channelWordsAt, modeWords, changeWords, modesWords, changesWords};
+ghost use Rattle.units.specs.Limits.{ACTORS as ACTORS-LIMIT, CHANNELS as CHANNELS-LIMIT};
+ghost use Rattle.tables.specs.Memory.{HEAD-WORDS, ACTOR-WORDS, FRONT-WORDS, CHANNEL-BYTES, CHANNELS-BYTES, headWords, actorWords, frontWords, headIn, actorIn, actorOf};
+ghost use Rattle.layout.specs.Words.{CHANNEL-WORDS, MODE-WORDS, CHANGE-WORDS, headWith, timesAt, changeWords};
+ghost use Rattle.layout.specs.Blocks.{CARRIED-WORDS, carriedWords, channelLaid, modeLaid, timedActor};
 
-// The words of an actor, and where its start stands; and those of a channel: where its rates of production and consumption begin, its size, and the tokens that it carries.
-pub(crate) const ACTOR_WORDS: usize = 6;
-
-pub(crate) const START_AT: usize = 5;
-
-pub(crate) const PRODUCTION_AT: usize = 2;
-
-pub(crate) const CONSUMPTION_AT: usize = PRODUCTION_AT + PHASES;
-
-pub(crate) const SIZE_AT: usize = CONSUMPTION_AT + PHASES;
-
-const TOKENS_AT: usize = SIZE_AT + 1;
-
-pub(crate) const CHANNEL_WORDS: usize = TOKENS_AT + 1;
-
-// The words of a mode: where its actors and its channels begin, behind five of its own.
-pub(crate) const ACTORS_AT: usize = 5;
-
-pub(crate) const CHANNELS_AT: usize = ACTORS_AT + ACTOR_WORDS * ACTORS;
-
-pub(crate) const MODE_WORDS: usize = CHANNELS_AT + CHANNEL_WORDS * CHANNELS;
-
-// The words of a change, where its offset stands, and the words of all of them.
-pub(crate) const CHANGE_WORDS: usize = 3;
-
-pub(crate) const OFFSET_AT: usize = 1;
-
-pub(crate) const CHANGES: usize = MODES * MODES;
-
-pub(crate) const CHANGES_WORDS: usize = CHANGE_WORDS * CHANGES;
-
-fn put_head(mode: Mode, part: ModePlan, words: &mut [u64])
+// A mode's own numbers, with what is planned of them.
+fn put_head(head: Head, part: ModePlan, words: &mut [u64])
     requires { ⌜ length (now words) ≡ HEAD-WORDS ⌝ }
-    ensures { λ _. ⌜ now (words .exit) ≡ headWords mode part ⌝ }
+    ensures { λ _. ⌜ now (words .exit) ≡ headWords (headWith head part) ⌝ }
 {
     let iteration = part.iteration;
-    words[0] = mode.active as u64;
-    words[1] = mode.count as u64;
+    words[0] = head.active as u64;
+    words[1] = head.count as u64;
     words[2] = iteration.ticks();
     words[3] = part.source as u64;
     words[4] = part.sink as u64;
 }
 
-fn put_actor(actor: Actor, firings: Firing, period: Tick, start: Tick, words: &mut [u64])
+// What is planned of an actor.
+fn put_times(times: Times, words: &mut [u64])
     requires { ⌜ length (now words) ≡ ACTOR-WORDS ⌝ }
-    ensures { λ _. ⌜ now (words .exit) ≡ actorWords actor firings period start ⌝ }
+    ensures { λ _. ⌜ now (words .exit) ≡ actorWords (actorOf (now (words .entry))) times ⌝ }
 {
-    let wcet = actor.wcet;
-    words[0] = actor.phases as u64;
-    words[1] = wcet.ticks();
-    words[2] = actor.processor as u64;
+    let firings = times.firings;
+    let period = times.period;
+    let start = times.start;
     words[3] = firings.firings();
     words[4] = period.ticks();
-    words[START_AT] = start.ticks();
+    words[5] = start.ticks();
 }
 
-fn put_actors(mode: Mode, part: ModePlan, words: &mut [u64])
-    requires { ⌜ length (now words) ≡ ACTOR-WORDS * ACTORS ⌝ }
-    ensures { λ _. ⌜ now (words .exit) ≡ joined ACTORS (actorWordsAt mode part) ⌝ }
+fn put_actors(part: ModePlan, words: &mut [u64])
+    requires { ⌜ length (now words) ≡ ACTOR-WORDS * ACTORS-LIMIT ⌝ }
+    ensures { λ _. ⌜ now (words .exit) ≡ joined ACTORS-LIMIT (timedActor (now (words .entry)) part) ⌝ }
 {
     for i in 0..ACTORS {
         let a = ACTOR_WORDS * i;
         let e = a + ACTOR_WORDS;
-        let actor = mode.actors[i];
         let firings = part.firings[i];
         let period = part.periods[i];
         let start = part.starts[i];
-        put_actor(actor, firings, period, start, &mut words[a..e]);
+        let times = Times {
+            firings,
+            period,
+            start,
+        };
+        put_times(times, &mut words[a..e]);
     }
 }
 
-fn put_rates(rates: [u8; PHASES], words: &mut [u64])
-    requires { ⌜ length (now words) ≡ PHASES ⌝ }
-    ensures { λ _. ⌜ now (words .exit) ≡ rateWords rates ⌝ }
+// What is planned of a channel.
+fn put_pair(size: Token, tokens: Token, words: &mut [u64])
+    requires { ⌜ length (now words) ≡ 2 ⌝ }
+    ensures { λ _. ⌜ now (words .exit) ≡ size .0 ∷ tokens .0 ∷ [] ⌝ }
 {
-    for k in 0..PHASES {
-        words[k] = rates[k] as u64;
-    }
+    words[0] = size.tokens();
+    words[1] = tokens.tokens();
 }
 
-fn put_channel(channel: Channel, size: Token, tokens: Token, words: &mut [u64])
-    requires { ⌜ length (now words) ≡ CHANNEL-WORDS ⌝ }
-    ensures { λ _. ⌜ now (words .exit) ≡ channelWords channel size tokens ⌝ }
-{
-    let production = channel.production;
-    let consumption = channel.consumption;
-    put_rates(production, &mut words[PRODUCTION_AT..CONSUMPTION_AT]);
-    put_rates(consumption, &mut words[CONSUMPTION_AT..SIZE_AT]);
-    words[0] = channel.from as u64;
-    words[1] = channel.to as u64;
-    words[SIZE_AT] = size.tokens();
-    words[TOKENS_AT] = tokens.tokens();
-}
-
-fn put_channels(mode: Mode, part: ModePlan, words: &mut [u64])
-    requires { ⌜ length (now words) ≡ CHANNEL-WORDS * CHANNELS ⌝ }
-    ensures { λ _. ⌜ now (words .exit) ≡ joined CHANNELS (channelWordsAt mode part) ⌝ }
+fn put_carried(part: ModePlan, words: &mut [u64])
+    requires { ⌜ length (now words) ≡ CARRIED-WORDS ⌝ }
+    ensures { λ _. ⌜ now (words .exit) ≡ carriedWords part ⌝ }
 {
     for k in 0..CHANNELS {
-        let a = CHANNEL_WORDS * k;
-        let e = a + CHANNEL_WORDS;
-        let channel = mode.channels[k];
+        let a = 2 * k;
+        let e = a + 2;
         let size = part.sizes[k];
         let tokens = part.tokens[k];
-        put_channel(channel, size, tokens, &mut words[a..e]);
+        put_pair(size, tokens, &mut words[a..e]);
     }
 }
 
-pub(crate) fn put_mode(mode: Mode, part: ModePlan, words: &mut [u64])
-    requires { ⌜ length (now words) ≡ MODE-WORDS ⌝ }
-    ensures { λ _. ⌜ now (words .exit) ≡ modeWords mode part ⌝ }
+// What is planned of a mode, into its front and into the words of its channels.
+pub fn put_part(part: ModePlan, front: &mut [u64], carried: &mut [u64])
+    requires { ⌜ (length (now front) ≡ FRONT-WORDS) × (length (now carried) ≡ CARRIED-WORDS) ⌝ }
+    ensures { λ _. ⌜ (now (front .exit) ≡ frontWords (headWith (headIn (now (front .entry))) part) (actorIn (now (front .entry))) (timesAt part)) × (now (carried .exit) ≡ carriedWords part) ⌝ }
 {
-    put_head(mode, part, &mut words[0..ACTORS_AT]);
-    put_actors(mode, part, &mut words[ACTORS_AT..CHANNELS_AT]);
-    put_channels(mode, part, &mut words[CHANNELS_AT..MODE_WORDS]);
+    let head = head_of(front);
+    put_head(head, part, &mut front[0..HEAD_WORDS]);
+    put_actors(part, &mut front[HEAD_WORDS..FRONT_WORDS]);
+    put_carried(part, carried);
 }
 
-pub(crate) fn put_modes(table: Table, plan: Plan, words: &mut [u64])
-    requires { ⌜ length (now words) ≡ MODE-WORDS * MODES ⌝ }
-    ensures { λ _. ⌜ now (words .exit) ≡ modesWords table plan ⌝ }
+pub(crate) fn copy(from: &[u64], to: &mut [u64])
+    requires { ⌜ length (now from) ≡ length (now to) ⌝ }
+    ensures { λ _. ⌜ now (to .exit) ≡ now (from .entry) ⌝ }
 {
-    for m in 0..MODES {
-        let a = MODE_WORDS * m;
-        let e = a + MODE_WORDS;
-        let mode = table.modes[m];
-        let part = plan.parts[m];
-        put_mode(mode, part, &mut words[a..e]);
+    for k in 0..from.len() {
+        to[k] = from[k];
     }
 }
 
-fn put_change(timing: Timing, words: &mut [u64])
+fn put_bytes(bytes: &[u8], words: &mut [u64])
+    requires { ⌜ length (now bytes) ≡ length (now words) ⌝ }
+    ensures { λ _. ⌜ now (words .exit) ≡ now (bytes .entry) ⌝ }
+{
+    for k in 0..bytes.len() {
+        words[k] = bytes[k] as u64;
+    }
+}
+
+fn put_channel(bytes: &[u8], carried: &[u64], words: &mut [u64])
+    requires { ⌜ (length (now bytes) ≡ CHANNEL-BYTES) × (length (now carried) ≡ 2) × (length (now words) ≡ CHANNEL-WORDS) ⌝ }
+    ensures { λ _. ⌜ now (words .exit) ≡ now (bytes .entry) ++ now (carried .entry) ⌝ }
+{
+    put_bytes(bytes, &mut words[0..CHANNEL_BYTES]);
+    copy(carried, &mut words[CHANNEL_BYTES..CHANNEL_WORDS]);
+}
+
+fn put_channels(channels: &[u8], carried: &[u64], words: &mut [u64])
+    requires { ⌜ (length (now channels) ≡ CHANNELS-BYTES) × (length (now carried) ≡ CARRIED-WORDS) × (length (now words) ≡ CHANNEL-WORDS * CHANNELS-LIMIT) ⌝ }
+    ensures { λ _. ⌜ now (words .exit) ≡ joined CHANNELS-LIMIT (channelLaid (now (channels .entry)) (now (carried .entry))) ⌝ }
+{
+    for k in 0..CHANNELS {
+        let a = CHANNEL_BYTES * k;
+        let b = a + CHANNEL_BYTES;
+        let c = 2 * k;
+        let d = c + 2;
+        let e = CHANNEL_WORDS * k;
+        let f = e + CHANNEL_WORDS;
+        put_channel(&channels[a..b], &carried[c..d], &mut words[e..f]);
+    }
+}
+
+// The words of a mode, from its front, its channels and what is planned of these.
+pub fn put_mode(front: &[u64], channels: &[u8], carried: &[u64], words: &mut [u64])
+    requires { ⌜ (length (now front) ≡ FRONT-WORDS) × (length (now channels) ≡ CHANNELS-BYTES) × (length (now carried) ≡ CARRIED-WORDS) × (length (now words) ≡ MODE-WORDS) ⌝ }
+    ensures { λ _. ⌜ now (words .exit) ≡ modeLaid (now (front .entry)) (now (channels .entry)) (now (carried .entry)) ⌝ }
+{
+    copy(front, &mut words[0..FRONT_WORDS]);
+    put_channels(channels, carried, &mut words[FRONT_WORDS..MODE_WORDS]);
+}
+
+// The words of a change.
+pub fn put_change(timing: Timing, words: &mut [u64])
     requires { ⌜ length (now words) ≡ CHANGE-WORDS ⌝ }
     ensures { λ _. ⌜ now (words .exit) ≡ changeWords timing ⌝ }
 {
@@ -159,18 +160,6 @@ fn put_change(timing: Timing, words: &mut [u64])
     let offset = timing.offset;
     let worst = timing.worst;
     words[0] = overlap.ticks();
-    words[OFFSET_AT] = offset.ticks();
+    words[1] = offset.ticks();
     words[2] = worst.ticks();
-}
-
-pub(crate) fn put_changes(changes: [Timing; CHANGES], words: &mut [u64])
-    requires { ⌜ (length (now words) ≡ CHANGE-WORDS * CHANGES) × (length changes ≡ CHANGES) ⌝ }
-    ensures { λ _. ⌜ now (words .exit) ≡ changesWords (timedBy changes) ⌝ }
-{
-    for k in 0..CHANGES {
-        let a = CHANGE_WORDS * k;
-        let e = a + CHANGE_WORDS;
-        let timing = changes[k];
-        put_change(timing, &mut words[a..e]);
-    }
 }

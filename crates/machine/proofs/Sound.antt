@@ -22,7 +22,7 @@ use Rattle.tables.specs.Shape.{actorAt, Active}
 use Rattle.tables.specs.Proper.{ProperActor, ProperTable}
 use Rattle.graph.specs.Load.{askedBy}
 use Rattle.change.specs.Change.{ModeTimes, Changes, periodIn, askedOn, starts-after}
-use Rattle.planning.specs.declared.Plan.{Plan}
+use Rattle.planning.specs.Shape.{Plan}
 use Rattle.planning.specs.Plan.{Listed, changeAt, timesOf, Planned}
 use Rattle.planning.proofs.Running.{listed-some, listed-none}
 use Rattle.run.specs.Plan.{Acts}

@@ -20,7 +20,7 @@ use Rattle.terms.specs.Place.{numberOf}
 use Rattle.tables.specs.declared.Table.{Table}
 use Rattle.tables.specs.Shape.{modeAt}
 use Rattle.tables.specs.Proper.{ProperTable}
-use Rattle.planning.specs.declared.Plan.{Plan}
+use Rattle.planning.specs.Shape.{Plan}
 use Rattle.run.specs.Plan.{RunPlan, sinkStart}
 use Rattle.run.specs.Machine as Run
 use Rattle.run.proofs.Delay as Delay

@@ -8,7 +8,7 @@ use lib.Dec.{T}
 use Rattle.numbers.specs.Extreme.{least-unique}
 use Rattle.units.specs.declared.Tick.{Tick}
 use Rattle.tables.specs.declared.Table.{Table}
-use Rattle.planning.specs.declared.Plan.{Plan}
+use Rattle.planning.specs.Shape.{Plan}
 use Rattle.run.specs.Machine as Run
 use Rattle.machine.specs.Plan.{isListed, planOf}
 use Rattle.planner.specs.Plans.{Leaves}

@@ -14,7 +14,7 @@ use Rattle.tables.specs.declared.Table.{Table}
 use Rattle.tables.specs.Shape.{modeAt}
 use Rattle.schedule.proofs.Sound.{at-actor}
 use Rattle.planning.specs.declared.ModePlan.{ModePlan}
-use Rattle.planning.specs.declared.Plan.{Plan}
+use Rattle.planning.specs.Shape.{Plan}
 use Rattle.planning.specs.Plan.{partAt, changeAt, Listed}
 use Rattle.planning.proofs.Bounds.{planned-small}
 use Rattle.planning.proofs.Unique.{listed-or-not}
@@ -60,10 +60,10 @@ module _ {t : Table} {w : Plan} {words : List ℕ} (l : Leaves t w words) where
   pub offset-told : (o n : ℕ) → o < MODES → n < MODES
       → tick (getD (take (CHANGE-WORDS * CHANGES) (drop (MODE-WORDS * MODES) words)) (CHANGE-WORDS * (MODES * o + n) + 1) 0) ≡ changeAt w o n .offset
   offset-told o n ho hn =
-      let e : take (CHANGE-WORDS * CHANGES) (drop (MODE-WORDS * MODES) words) ≡ changesWords w
+      let e : take (CHANGE-WORDS * CHANGES) (drop (MODE-WORDS * MODES) words) ≡ changesWords (w .changes)
       = ap (λ (l : List ℕ). take (CHANGE-WORDS * CHANGES) (drop (MODE-WORDS * MODES) l)) (l .left) ∙ ap (take (CHANGE-WORDS * CHANGES)) (changes-words t w)
-      ∙ take-all (CHANGE-WORDS * CHANGES) (changesWords w) (omega (arith, length-changes w)) in
-      ap tick (ap (λ (l : List ℕ). getD l (CHANGE-WORDS * (MODES * o + n) + 1) 0) e ∙ offset-words w (MODES * o + n) (omega arith))
+      ∙ take-all (CHANGE-WORDS * CHANGES) (changesWords (w .changes)) (omega (arith, length-changes (w .changes))) in
+      ap tick (ap (λ (l : List ℕ). getD l (CHANGE-WORDS * (MODES * o + n) + 1) 0) e ∙ offset-words (w .changes) (MODES * o + n) (omega arith))
 
 pub stored-long : {words : List ℕ} → Stored words → length words ≡ WORDS
 stored-long {words} s = let (t, w, l) = stored-leaves words s in leaves-long l

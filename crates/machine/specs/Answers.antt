@@ -10,7 +10,7 @@ use Rattle.terms.specs.Refusal.{NO-MODE, NO-PLAN, refusalAt}
 use Rattle.terms.specs.declared.refusal.Place.the-variants.{Nowhere}
 use Rattle.terms.specs.declared.refusal.Refusal.{Refusal}
 use Rattle.tables.specs.declared.Table.{Table}
-use Rattle.planning.specs.declared.Plan.{Plan}
+use Rattle.planning.specs.Shape.{Plan}
 use Rattle.run.specs.Plan.{RunPlan}
 use Rattle.run.specs.Machine as Run
 use Rattle.machine.specs.Plan.{isListed, planOf}

@@ -14,7 +14,7 @@ use Rattle.tables.specs.declared.Mode.{Mode}
 use Rattle.tables.specs.declared.Table.{Table}
 use Rattle.tables.specs.Shape.{actorAt, channelAt, modeAt}
 use Rattle.planning.specs.declared.ModePlan.{ModePlan}
-use Rattle.planning.specs.declared.Plan.{Plan}
+use Rattle.planning.specs.Shape.{Plan}
 use Rattle.planning.specs.Plan.{partAt, changeAt}
 use Rattle.run.specs.Plan.{RunPlan}
 

@@ -12,7 +12,7 @@ use Rattle.units.specs.Ticks.{tick, greaterTick}
 use Rattle.terms.specs.Place.{placeOf}
 use Rattle.tables.specs.declared.Table.{Table}
 use Rattle.tables.specs.Shape.{modeAt}
-use Rattle.planning.specs.declared.Plan.{Plan}
+use Rattle.planning.specs.Shape.{Plan}
 use Rattle.planning.specs.Plan.{partAt, changeAt}
 use Rattle.layout.specs.declared.load.Pace.{Pace}
 use Rattle.planner.specs.Plans.{Leaves}

@@ -33,7 +33,7 @@ use Rattle.schedule.specs.Reached.{startAt}
 use Rattle.schedule.specs.Model.{startsOf}
 use Rattle.schedule.proofs.Laws.{starts-exist}
 use Rattle.change.specs.Change.{loadAt}
-use Rattle.planning.specs.declared.Plan.{Plan}
+use Rattle.planning.specs.Shape.{Plan}
 use Rattle.planning.specs.declared.Answer.{Answer}
 use Rattle.planning.specs.declared.Answer.the-variants.{Planned as IsPlanned, Refused as IsRefused}
 use Rattle.planning.specs.Plan.{Planned}

@@ -23,7 +23,7 @@ use Rattle.schedule.specs.Model.{depthFrom, startsFrom, scheduleOf}
 use Rattle.run.specs.Machine.{refusal, answer, run}
 use Rattle.run.specs.Firing.{tally, begun, done, total, asks, asked}
 use Rattle.tables.specs.declared.Table.{Table}
-use Rattle.planning.specs.declared.Plan.{Plan}
+use Rattle.planning.specs.Shape.{Plan}
 use Rattle.planning.specs.Plan.{Planned}
 use Rattle.planner.specs.Plans.{Reads}
 use Rattle.machine.specs.Plan.{planOf}

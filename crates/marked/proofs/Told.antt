@@ -6,7 +6,7 @@ use lib.Dec.{T}
 use Rattle.units.specs.declared.Tick.{Tick}
 use Rattle.units.specs.Ticks.{tick}
 use Rattle.tables.specs.declared.Table.{Table}
-use Rattle.planning.specs.declared.Plan.{Plan}
+use Rattle.planning.specs.Shape.{Plan}
 use Rattle.run.specs.Machine as Run
 use Rattle.run.specs.Plan.{RunPlan}
 use Rattle.machine.specs.Plan.{isListed, planOf}

@@ -17,7 +17,7 @@ use Rattle.graph.specs.declared.Judgement.{Judgement}
 use Rattle.graph.specs.Judged.{Judged}
 use Rattle.schedule.specs.Starts.{Starts}
 use Rattle.change.specs.Change.{ModeTimes, loadAt}
-use Rattle.planning.specs.declared.Plan.{Plan}
+use Rattle.planning.specs.Shape.{Plan}
 use Rattle.planning.specs.Plan.{partAt, timesOf, Planned}
 use Rattle.layout.specs.Words.{WORDS}
 use Rattle.printer.specs.Printed.{PRINTED, Shows}

@@ -5,10 +5,11 @@ use mathlib.Core.Logic.{_↔_, _⊎_, inl, inr}
 use Prim.Native.Nat.{ℕ, zero, suc, _+_, _-_, _*_, _≤_, _<_}
 use native.Mathlib.Nat.{mul-zero, mul-suc, mul-le-mul-left, le-of-eq, le-of-suc-le-suc, not-suc-le-zero, eq-or-lt-of-le}
 use native.Mathlib.Omega.{arith}
-use lib.ListN.{length, take, drop, length-append, length-take, length-drop, drop-of-length-le}
-use lib.Seq.{take-at, drop-at, take-all, take-append-le, drop-append-le, take-append-add, drop-append-add, take-add, sets, sets-eq}
+use lib.ListN.{length, getD, take, drop, length-append, length-take, length-drop, drop-of-length-le}
+use lib.Seq.{getD-take, getD-drop, take-at, drop-at, take-all, take-append-le, drop-append-le, take-append-add, drop-append-add, take-add, sets, sets-eq}
 use borrow.Rule.Slice.PartMut.{putMid}
-use Rattle.numbers.specs.Joined.{joined, part, joined-next, joined-same, length-joined}
+use Rattle.numbers.specs.Tab.{is-tab, stretchOf}
+use Rattle.numbers.specs.Joined.{joined, part, joined-next, joined-same, length-joined, getD-joined}
 
 -- w has n elements, and begins with p
 pub record Laid {A : Type 0} (n : ℕ) (p w : List A) : Type 0 where
@@ -43,6 +44,11 @@ module _ {A : Type 0} {n : ℕ} where
         long = l .long;
         laid = ap (λ (j : ℕ). take j w) (length-append p b ∙ ap₂ _+_ e g) ∙ take-add a k w ∙ ap₂ _++_ front h;
       }
+
+-- a list whose two parts are put one after the other
+pub put-two : {A : Type 0} (a k : ℕ) (p q w x y : List A) → length w ≡ a + k → length p ≡ a → length q ≡ k → x ≡ p → y ≡ q → putMid a k (putMid 0 a w x) y ≡ p ++ q
+put-two a k p q w x y h e g f s =
+    laid-all (laid-put a k s (laid-put 0 a f (laid-none h) refl e (omega arith)) e g (omega arith)) (length-append p q ∙ ap₂ _+_ e g)
 
 -- a list of two parts, the first of which is p, is p with q behind it exactly when the other is q
 pub two-parts : {A : Type 0} (a k : ℕ) (p q w : List A) → length p ≡ a → length q ≡ k → length w ≡ a + k → take a w ≡ p
@@ -119,3 +125,14 @@ module _ {A : Type 0} where
       go (inr l) next =
           put-first (k * i) k (joined n f) (f n) (g i) (omega (arith, length-joined k f each n, mul-le-mul-left k l, mul-suc k i))
           ∙ ap₂ _++_ (next l (λ j b. same j (omega arith))) (same n (omega arith) (λ e. omega arith))
+
+-- a stretch of a list, by its two ends, is its numbers
+pub stretch-is : (a e k : ℕ) (l : List ℕ) → e ≡ a + k → e ≤ length l → take (e - a) (drop a l) ≡ stretchOf a k l
+stretch-is a e k l w h =
+    let wide : e - a ≡ k = omega arith in
+    ap (λ (n : ℕ). take n (drop a l)) wide
+    ∙ is-tab k (λ j. getD l (a + j) 0) (take k (drop a l)) 0 (length-take k (drop a l) ∙ simp length-drop (omega arith)) (λ j b. getD-take k (drop a l) j 0 b ∙ getD-drop a l j 0)
+
+-- and of lists that are joined it is one of them
+pub stretch-joined : (k n i : ℕ) (f : ℕ → List ℕ) → ((j : ℕ) → length (f j) ≡ k) → i < n → stretchOf (k * i) k (joined n f) ≡ f i
+stretch-joined k n i f each h = sym (is-tab k (λ j. getD (joined n f) (k * i + j) 0) (f i) 0 (each i) (λ j b. sym (getD-joined k f each n i j 0 h b)))

@@ -5,9 +5,9 @@ use mathlib.Core.Logic.{_↔_, _⊎_, inl, inr, ⊎-elim}
 use Prim.Native.Nat.{ℕ, zero, suc, _≤_, _<_, max, _+_}
 use native.Mathlib.Nat.{le-antisymm, lt-of-lt-of-le, not-suc-le-zero, le-of-suc-le-suc, eq-or-lt-of-le, le-refl}
 use native.Mathlib.Omega.{arith}
-use native.Mathlib.Decide.{decLe}
+use native.Mathlib.Decide.{decLe, decLt}
 use native.Mathlib.Numerals.{add-one}
-use lib.ListN.{length, getD}
+use lib.ListN.{length, getD, List·getD-eq-default}
 
 -- n has the property P, and no smaller number has it
 pub record Least (P : ℕ → Type 0) (n : ℕ) : Type 0 where
@@ -89,6 +89,19 @@ module _ (l : List ℕ) where
             (eq-or-lt-of-le (omega arith));
         greatest = λ m. ⊎-elim (λ (z : m ≡ 0). omega arith) (λ ((i, h, e) : (i : ℕ) × (i < length l) × (m ≡ at i)). omega (arith, most-above at (length l) i h));
       }
+
+  -- no element is above what is the greatest in it, and this is below what all elements are below
+  module _ (r : ℕ) (most : GreatestIn l r) where
+    pub greatest-above : (i : ℕ) → getD l i 0 ≤ r
+    greatest-above i = go (decLt i (length l))
+      where
+        go : Dec (i < length l) → at i ≤ r
+        go (yes h) = most .greatest (at i) (inr (i, h, refl))
+        go (no h) = omega (arith, List·getD-eq-default l 0 {n = i} (omega arith))
+
+    pub greatest-below : (b : ℕ) → 0 < b → ((i : ℕ) → getD l i 0 < b) → r < b
+    greatest-below b some h =
+        ⊎-elim (λ (z : r ≡ 0). omega arith) (λ ((i, g, e) : (i : ℕ) × (i < length l) × (r ≡ at i)). omega (arith, h i)) (most .holds)
 
 -- the same values have the same greatest
 pub most-same : (f g : ℕ → ℕ) (n : ℕ) → ((i : ℕ) → i < n → f i ≡ g i) → mostOf f n ≡ mostOf g n

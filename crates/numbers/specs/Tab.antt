@@ -69,3 +69,7 @@ module _ {A : Type 0} where
 
   pub placing-aside : (i j : ℕ) (v : A) (f : ℕ → A) → (j ≡ i → ⊥) → placing i v f j ≡ f j
   placing-aside i j v f n = rw (ne-eqb j i n)
+
+-- k numbers of a list from place a on, with 0 for those past its end
+abbrev pub stretchOf : ℕ → ℕ → List ℕ → List ℕ
+stretchOf a k l = tab k (λ j. getD l (a + j) 0)

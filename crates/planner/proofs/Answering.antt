@@ -9,13 +9,11 @@ use Rattle.terms.specs.declared.refusal.Refusal.{Refusal}
 use Rattle.tables.specs.declared.Table.{Table}
 use Rattle.tables.specs.Proper.{ProperTable}
 use Rattle.tables.specs.Shape.{modeAt, emptyTable}
-use Rattle.reader.specs.declared.Reading.{Reading}
 use Rattle.reader.specs.declared.Answer.{Answer as ReadAnswer}
 use Rattle.reader.specs.declared.Answer.the-variants.{Read, Refused as NotRead}
-use Rattle.reader.specs.Told.{Outcome as Rows, rows, refused as rows-refused, Of, readingOf, Told}
+use Rattle.reader.specs.Told.{Reading, Outcome as Rows, rows, refused as rows-refused, Of, readingOf, Told}
 use Rattle.reader.proofs.Again.{told-one}
-use Rattle.planning.specs.declared.Plan.{Plan}
-use Rattle.planning.specs.declared.Outcome.{Outcome}
+use Rattle.planning.specs.Shape.{Plan, Outcome}
 use Rattle.planning.specs.declared.Answer.{Answer as PlanningAnswer}
 use Rattle.planning.specs.declared.Answer.the-variants.{Planned as IsPlanned, Refused as NotPlanned}
 use Rattle.planning.specs.Nothing.{emptyPlan}

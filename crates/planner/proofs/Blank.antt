@@ -1,26 +1,41 @@
--- Words of a mode that is not listed. Assumes nothing.
-use mathlib.Core.Path.{_≡_, refl, sym, ap, ap₂, _∙_}
+-- Words of a mode that is not listed, and of one that is. Assumes nothing.
+use mathlib.Core.Path.{_≡_, refl, sym, ap, ap₂, subst, _∙_}
+use mathlib.Core.Bool.{Bool}
 use mathlib.Core.List.{List}
-use Prim.Native.Nat.{ℕ, zero, suc, _<_}
+use Prim.Native.Nat.{ℕ, zero, suc, _-_, _%_, _^_, _<_}
+use native.Mathlib.Decide.{ℕ-discrete}
 use native.Mathlib.Omega.{arith}
-use lib.ListN.{replicate, length-replicate, getD-replicate}
-use lib.Seq.{ext-getD}
+use lib.ListN.{length, getD, take, drop, length-drop, replicate, length-replicate, getD-replicate}
+use lib.Seq.{ext-getD, getD-take, take-all}
 use Rattle.numbers.specs.Bits.{Has, bit, bit-zero}
+use Rattle.numbers.specs.Decides.{Decides}
+use Rattle.numbers.specs.Joined.{joined}
 use Rattle.numbers.specs.Tab.{tab, getD-replicated}
 use Rattle.units.specs.Limits.{ACTORS, CHANNELS}
+use Rattle.units.specs.Ticks.{tick}
+use Rattle.terms.specs.declared.refusal.Refusal.{Refusal}
 use Rattle.tables.specs.declared.Mode.{Mode}
 use Rattle.tables.specs.Shape.{noActor, noChannel, emptyChannel, emptyMode}
 use Rattle.tables.specs.Proper.{ProperMode}
 use Rattle.tables.specs.Grown.{empty-proper}
+use Rattle.tables.specs.Memory.{FRONT-WORDS, headOf, modeIn}
+use Rattle.change.specs.Work.{preparedOf}
+use Rattle.change.specs.Running.{runningIn}
+use Rattle.change.proofs.Fronts.{running-in}
 use Rattle.planning.specs.declared.ModePlan.{ModePlan}
+use Rattle.planning.specs.declared.Answer.the-variants.{Planned as IsPlanned}
 use Rattle.planning.specs.Nothing.{emptyPart}
-use Rattle.planning.specs.Plan.{ModePlanned}
-use Rattle.planning.specs.Changes.{idleRunning}
-use Rattle.numbers.specs.Joined.{joined}
-use Rattle.layout.specs.Words.{MODE-WORDS, modeWords}
-use Rattle.layout.specs.Read.{modeOf}
+use Rattle.planning.specs.Plan.{ModeRefused, ModePlanned}
+use Rattle.planning.specs.Changes.{runningOf}
+use Rattle.planning.specs.Steps.{AnyComes}
+use Rattle.planning.proofs.Bounds.{SmallPart, mode-small, empty-small}
+use Rattle.planning.proofs.Running.{startup-sink}
+use Rattle.planning.proofs.Unique.{part-unique, planned-refused}
+use Rattle.layout.specs.Words.{MODE-WORDS, headWith, plannedFront, modeWords}
+use Rattle.layout.specs.Read.{bytesIn, modeOf, partOf}
 use Rattle.layout.specs.Laws.{mode-back}
-use Rattle.planner.specs.Held.{Means, HeldAs}
+use Rattle.layout.proofs.Planned.{part-back}
+use Rattle.planner.specs.Held.{Held}
 
 -- the words of a mode in which nothing is listed are all 0
 empty-words : modeWords emptyMode emptyPart ≡ replicate MODE-WORDS 0
@@ -50,24 +65,69 @@ no-mode m proper e =
 planned-listed : (m : Mode) (p : ModePlan) → ModePlanned m p → m .active ≡ 0 → ⊥
 planned-listed m p w e = nobody m _ e (w .balanced .ends .0 .0 .1)
 
-pub planned-means : (l : List ℕ) (p : ModePlan) → ProperMode (modeOf l) → ModePlanned (modeOf l) p → l ≡ modeWords (modeOf l) p → Means l p
-planned-means l p proper w left = record { proper = proper; listed = λ n. w; unlisted = λ e. absurd (planned-listed (modeOf l) p w e); left = left }
+-- a proper mode with what is planned of it, or with nothing where it is not listed
+module _ (m : Mode) (p : ModePlan) (n : ℕ) (proper : ProperMode m) (comes : AnyComes m n IsPlanned p) where
+  pub part-sound : SmallPart p × (p .startup ≡ getD (p .starts) (p .sink) (tick 0))
+  part-sound = go (ℕ-discrete (m .active) 0)
+    where
+      go : Dec (m .active ≡ 0) → SmallPart p × (p .startup ≡ getD (p .starts) (p .sink) (tick 0))
+      go (yes e) = rw (comes .1 e) (empty-small, refl)
+      go (no h) = (mode-small m p proper (comes .0 h), startup-sink m proper p (comes .0 h))
+
+  pub words-held : Held (modeWords m p)
+  words-held =
+      let mode = mode-back m proper p in
+      let part = part-back m p (proper .active) (part-sound .0) (part-sound .1) in
+      record {
+        proper = rw mode proper;
+        listed = rw (mode, part) (comes .0);
+        unlisted = rw (mode, part) (comes .1);
+        left = sym (ap₂ modeWords mode part);
+      }
+
+  -- it runs by the numbers of its front
+  pub planned-runs : runningIn (plannedFront m p) ≡ runningOf m p
+  planned-runs =
+      let (small, startup) = part-sound in
+      running-in (headWith (headOf m) p) (m .actors) (p .firings) (p .periods) (p .starts) (proper .actors-long) (small .firings-long) (small .periods-long) (small .starts-long) (proper .active) (small .sink)
+      ∙ ap (preparedOf (m .active) (m .actors) (p .iteration) (p .firings) (p .periods) (p .starts) (getD (p .starts) (p .sink) (tick 0))) (sym startup)
 
 module _ (l : List ℕ) where
-  pub blank-held : l ≡ replicate MODE-WORDS 0 → HeldAs l idleRunning
-  blank-held e =
-      let mode : modeOf l ≡ emptyMode = ap modeOf (e ∙ sym empty-words) ∙ mode-back emptyMode empty-proper emptyPart in (
-        emptyPart,
-        record {
-          proper = rw mode empty-proper;
-          listed = λ n. absurd (n (ap (λ (m : Mode). m .active) mode));
-          unlisted = λ n. refl;
-          left = e ∙ sym empty-words ∙ ap (λ (m : Mode). modeWords m emptyPart) (sym mode);
-        },
-        rw mode refl,
-      )
+  -- words that are all 0 hold a mode that is not listed
+  blank-held : l ≡ replicate MODE-WORDS 0 → Held l
+  blank-held e = rw (e ∙ sym empty-words) (words-held emptyMode emptyPart 1 empty-proper ((λ h. absurd (h refl)), (λ h. refl)))
 
-  -- where some word is not 0, the mode that they hold is planned
-  pub means-planned : (l ≡ replicate MODE-WORDS 0 → ⊥) → (p : ModePlan) → Means l p → ModePlanned (modeOf l) p
-  means-planned n p m =
-      m .listed (λ e. n (m .left ∙ ap₂ modeWords (no-mode (modeOf l) (m .proper) e) (m .unlisted e) ∙ empty-words))
+  -- and those of such a mode are all 0
+  held-blank : Held l → modeOf l .active ≡ 0 → l ≡ replicate MODE-WORDS 0
+  held-blank h e = h .left ∙ ap₂ modeWords (no-mode (modeOf l) (h .proper) e) (h .unlisted e) ∙ empty-words
+
+  -- so a mode whose first word is 0 is held when all its words are
+  pub blank-decides : (b : Bool) → length l ≡ MODE-WORDS → getD l 0 0 ≡ 0 → Decides (l ≡ replicate (length l) 0) b → Decides (Held l) b
+  unfolding modeOf
+  blank-decides b long first d =
+      let zeros = ap (λ (n : ℕ). replicate {A = ℕ} n 0) long in
+      let none : modeOf l .active ≡ 0 = ap (λ (n : ℕ). n % 2 ^ ACTORS) (getD-take FRONT-WORDS l 0 0 (omega arith) ∙ first) in
+      ((λ t. blank-held (d .0 t ∙ zeros)), (λ h. d .1 (held-blank h none ∙ sym zeros)))
+
+  -- and another when it is that of the mode that is read from it, with what is planned of this
+  module _ (some : getD l 0 0 ≡ 0 → ⊥) (m : Mode) (is : m ≡ modeOf l) where
+    pub held-proper : Held l → ProperMode m
+    held-proper h = subst ProperMode (sym is) (h .proper)
+
+    held-part : Held l → ModePlanned m (partOf l)
+    held-part h = subst (λ (m : Mode). ModePlanned m (partOf l)) (sym is) (h .listed (λ e. some (ap (λ (l : List ℕ). getD l 0 0) (held-blank h e))))
+
+    pub held-unrefused : {n : ℕ} {r : Refusal} → ModeRefused m n r → Held l → ⊥
+    held-unrefused r h = planned-refused (held-part h) r
+
+    pub listed-decides : (p : ModePlan) (b : Bool) → ProperMode m → ModePlanned m p → Decides (l ≡ modeWords m p) b → Decides (Held l) b
+    listed-decides p b proper w d = (
+      (λ t. subst Held (sym (d .0 t)) (words-held m p 1 proper ((λ n. w), (λ e. absurd (planned-listed m p w e))))),
+      (λ h. d .1 (h .left ∙ ap₂ modeWords (sym is) (part-unique (held-part h) w))),
+    )
+
+-- the mode that is read from words
+pub mode-read : (l c : List ℕ) → length l ≡ MODE-WORDS → c ≡ bytesIn (take (MODE-WORDS - FRONT-WORDS) (drop FRONT-WORDS l)) → modeIn (take FRONT-WORDS l) c ≡ modeOf l
+unfolding modeOf
+mode-read l c long e =
+    ap (modeIn (take FRONT-WORDS l)) (e ∙ ap bytesIn (take-all (MODE-WORDS - FRONT-WORDS) (drop FRONT-WORDS l) (omega (arith, length-drop FRONT-WORDS l))))

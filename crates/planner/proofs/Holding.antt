@@ -1,160 +1,213 @@
 -- Words that hold a plan, mode by mode. Assumes nothing.
 use mathlib.Core.Path.{_≡_, refl, sym, ap, ap₂, subst, _∙_}
-use mathlib.Core.Bool.{Bool, true, false}
-use mathlib.Core.List.{List}
-use mathlib.Core.Logic.{_↔_}
+use mathlib.Core.Bool.{Bool}
+use mathlib.Core.List.{List, [], _++_, append-nil}
 use Prim.Native.Nat.{ℕ, _+_, _-_, _*_, _<_}
-use native.Mathlib.Decide.{decLt, ℕ-discrete}
-use lib.ListN.{length, getD, take, drop}
+use native.Mathlib.Decide.{ℕ-discrete}
+use native.Mathlib.Omega.{arith}
+use lib.ListN.{length, getD, take, drop, length-take, take-append-drop}
+use lib.Seq.{take-at, drop-at, take-all, take-take, take-append-le, drop-append-le}
+use borrow.Author.Count.{below-more}
 use Rattle.numbers.specs.All.{Below}
 use Rattle.numbers.specs.Decides.{Decides}
-use Rattle.numbers.specs.Filled.{Filled, filled-whole}
-use Rattle.numbers.specs.Tab.{tab, length-tab, getD-tab, is-tab}
+use Rattle.numbers.specs.Filled.{filled-whole}
+use Rattle.numbers.specs.Joined.{part, joined-part}
+use Rattle.numbers.specs.Tab.{tab, length-tab, getD-tab, tab-same}
+use Rattle.numbers.proofs.Laid.{part-is, parts-joined}
 use Rattle.units.specs.Limits.{MODES, ACTORS}
 use Rattle.tables.specs.declared.Actor.{Actor}
 use Rattle.tables.specs.declared.Mode.{Mode}
+use Rattle.tables.specs.declared.Table.{Table}
 use Rattle.tables.specs.Shape.{noMode, modeAt}
 use Rattle.tables.specs.Proper.{ProperMode, ProperTable}
+use Rattle.tables.specs.Memory.{FRONT-WORDS, actorIn}
 use Rattle.tables.specs.Parts.{AtHome, housedOf}
-use Rattle.tables.proofs.Housing.{Housed, housed-next, at-home-all}
-use Rattle.change.specs.declared.Running.{Running}
+use Rattle.tables.proofs.Housing.{Housed, housed-next, at-home-all, housed-decides}
 use Rattle.change.specs.declared.Timing.{Timing}
+use Rattle.change.specs.Work.{Running, Fitting}
+use Rattle.change.specs.Running.{runningIn, Ready}
 use Rattle.planning.specs.declared.ModePlan.{ModePlan}
-use Rattle.planning.specs.declared.Plan.{Plan}
+use Rattle.planning.specs.declared.Answer.the-variants.{Planned as IsPlanned}
+use Rattle.planning.specs.Shape.{Plan}
 use Rattle.planning.specs.Nothing.{noPart, emptyPart}
 use Rattle.planning.specs.Plan.{partAt, Listed, ModePlanned, IsPart, Planned}
-use Rattle.planning.specs.Changes.{noRunning, idleRunning, runningOf, AllReady, FoundChanges}
-use Rattle.planning.specs.Steps.{runningsOf, FoundParts}
-use Rattle.planning.proofs.Running.{listed-some, listed-none, all-ready}
-use Rattle.planning.proofs.Coming.{plan-comes}
+use Rattle.planning.specs.Changes.{runningOf, FoundChanges}
+use Rattle.planning.specs.Steps.{AnyComes, FoundParts, runningsOf}
+use Rattle.planning.proofs.Running.{listed-some, listed-none, mode-ready, small-fitting}
+use Rattle.planning.proofs.Coming.{part-comes, plan-comes}
 use Rattle.planning.proofs.Unique.{plan-unique}
-use Rattle.numbers.specs.Joined.{part}
-use Rattle.layout.specs.Words.{CHANGES, MODE-WORDS, CHANGE-WORDS, WORDS, modeWords, modeWordsAt, modesWords, changesWords, wordsOf}
-use Rattle.layout.specs.Blocks.{timedBy}
-use Rattle.layout.specs.Read.{modeOf, graphOf}
-use Rattle.layout.specs.Laws.{part-words, length-modes, length-changes}
-use Rattle.numbers.proofs.Laid.{part-is, two-parts, parts-joined}
+use Rattle.layout.specs.Words.{MODE-WORDS, WORDS, plannedFront, modeWords, modeWordsAt, modesWords, changesWords, wordsOf}
+use Rattle.layout.specs.Read.{modeOf, partOf, graphOf, planOf}
+use Rattle.layout.specs.Laws.{length-planned, length-mode-at, length-modes, changes-words, graph-front}
 use Rattle.planner.specs.Plans.{Stored, Leaves}
-use Rattle.planner.specs.Held.{Means, HoldsMode, HeldAt}
-use Rattle.planner.proofs.Leaving.{leaves-stored, stored-held, leaves-proper, holds-leaves}
+use Rattle.planner.specs.Held.{Held, HeldModes}
+use Rattle.planner.specs.Changes.{MODES-WORDS, frontAt, runningsIn, Runs}
+use Rattle.planner.proofs.Leaving.{leaves-stored, stored-leaves, leaves-proper, leaves-long, leaves-graph, holds-leaves}
+use Rattle.planner.proofs.Blank.{part-sound, words-held, planned-runs}
 
+-- the words of a mode that they hold
+module _ (l : List ℕ) (held : Held l) where
+  abbrev m : Mode
+  m = modeOf l
+
+  abbrev p : ModePlan
+  p = partOf l
+
+  pub held-comes : AnyComes m 1 IsPlanned p
+  held-comes = (held .listed, held .unlisted)
+
+  front-held : take FRONT-WORDS l ≡ plannedFront m p
+  unfolding modeWords
+  front-held = ap (take FRONT-WORDS) (held .left) ∙ take-at (plannedFront m p) _ FRONT-WORDS (length-planned m p)
+
+  pub running-held : runningIn (take FRONT-WORDS l) ≡ runningOf m p
+  running-held = ap runningIn front-held ∙ planned-runs m p 1 (held .proper) held-comes
+
+-- the modes of words
 module _ (words : List ℕ) where
   graph-mode : (k : ℕ) → k < MODES → modeAt (graphOf words) k ≡ modeOf (part MODE-WORDS k words)
   unfolding graphOf
-  graph-mode k l = getD-tab MODES (λ m. modeOf (part MODE-WORDS m words)) k noMode l
+  graph-mode k h = getD-tab MODES (λ m. modeOf (part MODE-WORDS m words)) k noMode h
 
-  -- the words of a plan mean its modes
-  leaves-means : {w : Plan} → Leaves (graphOf words) w words → (k : ℕ) → k < MODES → Means (part MODE-WORDS k words) (partAt w k)
-  leaves-means {w} l k h =
-      let e = graph-mode k h in
-      let is = l .planned .part k h in
-      record {
-        proper = subst (λ m. ProperMode m) e (leaves-proper l .mode k h);
-        listed = λ n. subst (λ m. ModePlanned m (partAt w k)) e (is .listed (listed-some (graphOf words) k (leaves-proper l) h (λ a. n (sym (ap (λ (m : Mode). m .active) e) ∙ a))));
-        unlisted = λ a. is .unlisted (λ x. listed-none (graphOf words) k x (ap (λ (m : Mode). m .active) e ∙ a));
-        left = ap (part MODE-WORDS k) (l .left) ∙ part-words (graphOf words) w k h ∙ ap (λ (m : Mode). modeWords m (partAt w k)) e;
-      }
-
-  pub graph-long : length (graphOf words .modes) ≡ MODES
+  graph-long : length (graphOf words .modes) ≡ MODES
   unfolding graphOf
   graph-long = length-tab MODES _
 
-  -- the words of a mode, by what is told of them
-  module _ (m : ℕ) (b : Bool) (r : Running) (h : HoldsMode (take (MODE-WORDS * m + MODE-WORDS - MODE-WORDS * m) (drop (MODE-WORDS * m) words)) b r) where
-    told : HoldsMode (part MODE-WORDS m words) b r
-    told = subst (λ (l : List ℕ). HoldsMode l b r) (part-is MODE-WORDS m words) h
+  plan-part : (k : ℕ) → k < MODES → partAt (planOf words) k ≡ partOf (part MODE-WORDS k words)
+  unfolding planOf
+  plan-part k h = getD-tab MODES (λ m. partOf (part MODE-WORDS m words)) k noPart h
 
-    pub mode-held : b ≡ true → HeldAt words m r
-    mode-held e = subst (λ (b : Bool). HoldsMode (part MODE-WORDS m words) b r) e told
+  parts-long : length (planOf words .parts) ≡ MODES
+  unfolding planOf
+  parts-long = length-tab MODES _
 
-    pub mode-lost : m < MODES → b ≡ false → Stored words → ⊥
-    mode-lost l e s =
-        let (w, leaves) = stored-held refl s in
-        subst (λ (b : Bool). HoldsMode (part MODE-WORDS m words) b r) e told (partAt w m) (leaves-means leaves m l)
+  -- the front of a mode begins its words
+  front-at : (k : ℕ) → take FRONT-WORDS (part MODE-WORDS k words) ≡ frontAt words k
+  front-at k = take-take FRONT-WORDS MODE-WORDS (drop (MODE-WORDS * k) words) (omega arith)
 
-  -- a mode that they hold
-  module _ (m : ℕ) (h : m < MODES) (r : Running) (held : HeldAt words m r) where
-    pub held-proper : ProperMode (modeAt (graphOf words) m)
-    held-proper = subst (λ m. ProperMode m) (sym (graph-mode m h)) (held .1 .proper)
+  -- those of a proper table, of which each is held
+  module _ (held : HeldModes words) where
+    runs-at : (k : ℕ) → k < MODES → runningIn (frontAt words k) ≡ runningOf (modeOf (part MODE-WORDS k words)) (partOf (part MODE-WORDS k words))
+    runs-at k h = ap runningIn (sym (front-at k)) ∙ running-held (part MODE-WORDS k words) (held .mode k h)
 
-    pub held-actors : r .actors ≡ modeAt (graphOf words) m .actors
-    held-actors = ap (λ (r : Running). r .actors) (held .2) ∙ ap (λ (m : Mode). m .actors) (sym (graph-mode m h))
+    pub held-runs : length words ≡ MODES-WORDS → Runs words
+    held-runs long =
+        record {
+          long = long;
+          fitting = λ k h. subst Fitting (sym (runs-at k h)) (small-fitting _ (held .mode k h .proper) _ (part-sound _ _ 1 (held .mode k h .proper) (held-comes _ (held .mode k h)) .0));
+          sink = λ k h. rw (sym (front-at k) ∙ front-held (part MODE-WORDS k words) (held .mode k h)) (part-sound _ _ 1 (held .mode k h .proper) (held-comes _ (held .mode k h)) .0 .sink);
+          ready = λ k h n. subst Ready (sym (runs-at k h)) (mode-ready _ (held .mode k h .proper) _ (held .mode k h .listed (λ e. n (ap (λ (r : Running). r .active) (runs-at k h) ∙ e))));
+        }
 
-    pub held-long : length (r .actors) ≡ ACTORS
-    held-long = ap length held-actors ∙ held-proper .actors-long
+    pub runnings-held : runningsIn words ≡ runningsOf (graphOf words) (planOf words .parts)
+    runnings-held = tab-same MODES _ _ (λ k h. runs-at k h ∙ ap₂ runningOf (sym (graph-mode k h)) (sym (plan-part k h)))
 
-    -- its actors are on the homes, with which those of the modes below are
-    module _ (homes : List ℕ) (s : Housed (graphOf words) m homes) where
-      pub held-next : {next : List ℕ} → Below (AtHome homes (r .actors)) ACTORS → next ≡ housedOf homes (r .actors) → Housed (graphOf words) (m + 1) next
-      held-next b e =
-          subst (Housed (graphOf words) (m + 1)) (sym (e ∙ ap (housedOf homes) held-actors))
-          (housed-next (graphOf words) m homes s held-proper (subst (λ (l : List Actor). Below (AtHome homes l) ACTORS) held-actors b))
+    parts-held : FoundParts (graphOf words) (planOf words .parts) MODES
+    parts-held =
+        filled-whole MODES (IsPart (graphOf words)) emptyPart noPart (planOf words .parts) parts-long
+        (λ k h. part-comes (graphOf words) (held .proper) k h IsPlanned (partAt (planOf words) k)
+        (rw (graph-mode k h, plan-part k h) (held-comes (part MODE-WORDS k words) (held .mode k h))) refl)
 
-      pub held-home : ProperTable (graphOf words) → Below (AtHome homes (r .actors)) ACTORS
-      held-home p = subst (λ (l : List Actor). Below (AtHome homes l) ACTORS) (sym held-actors) (at-home-all (graphOf words) m homes s held-proper h p)
-
-  module _ (rs : List Running) (held : Filled MODES (HeldAt words) idleRunning noRunning rs MODES) (proper : ProperTable (graphOf words)) where
-    -- what is planned of mode k
-    found : (k : ℕ) → (p : ModePlan) × (k < MODES → Means (part MODE-WORDS k words) p × (getD rs k noRunning ≡ runningOf (modeOf (part MODE-WORDS k words)) p))
-    found k = go (decLt k MODES)
-      where
-        go : Dec (k < MODES) → (p : ModePlan) × (k < MODES → Means (part MODE-WORDS k words) p × (getD rs k noRunning ≡ runningOf (modeOf (part MODE-WORDS k words)) p))
-        go (yes h) = let (p, m, e) = held .each k h in (p, λ _. (m, e))
-        go (no n) = (emptyPart, λ h. absurd (n h))
-
-    abbrev parts : List ModePlan
-    parts = tab MODES (λ k. found k .0)
-
-    at : (k : ℕ) → k < MODES → getD parts k noPart ≡ found k .0
-    at k h = getD-tab MODES (λ k. found k .0) k noPart h
-
-    parts-found : FoundParts (graphOf words) parts MODES
-    parts-found = filled-whole MODES (IsPart (graphOf words)) emptyPart noPart parts (length-tab MODES _) is
-      where
-        is : (k : ℕ) → k < MODES → IsPart (graphOf words) k (getD parts k noPart)
-        is k h =
-            let e = graph-mode k h in
-            let m = found k .1 h .0 in
-            rw (at k h)
-            (record {
-              listed = λ x. subst (λ n. ModePlanned n (found k .0)) (sym e) (m .listed (λ a. listed-none (graphOf words) k x (ap (λ (n : Mode). n .active) e ∙ a)));
-              unlisted = λ n. m .unlisted (none n (ℕ-discrete (modeAt (graphOf words) k .active) 0));
-            })
-          where
-            none : (Listed (graphOf words) k → ⊥) → Dec (modeAt (graphOf words) k .active ≡ 0) → modeOf (part MODE-WORDS k words) .active ≡ 0
-            none n (yes a) = sym (ap (λ (n : Mode). n .active) (graph-mode k h)) ∙ a
-            none n (no a) = absurd (n (listed-some (graphOf words) k proper h a))
-
-    runs : rs ≡ runningsOf (graphOf words) parts
-    runs =
-        is-tab MODES (λ k. runningOf (modeAt (graphOf words) k) (getD parts k noPart)) rs noRunning (held .long)
-        (λ k h. found k .1 h .1 ∙ ap₂ runningOf (sym (graph-mode k h)) (sym (at k h)))
-
-    pub held-ready : AllReady rs
-    held-ready = subst AllReady (sym runs) (all-ready (graphOf words) proper parts parts-found)
-
-    -- with the changes they are a plan
+    -- with the changes between them they are a plan, which leaves them
     module _ (cs : List Timing) where
-      abbrev plan : Plan
-      plan = record { parts = parts; changes = cs }
+      abbrev pub planWith : Plan
+      planWith = record { parts = planOf words .parts; changes = cs }
 
-      modes : take (MODE-WORDS * MODES) words ≡ modesWords (graphOf words) plan
-      modes =
-          parts-joined MODE-WORDS (modeWordsAt (graphOf words) plan) words MODES
-          (λ k h. found k .1 h .0 .left ∙ ap₂ modeWords (sym (graph-mode k h)) (sym (at k h)))
+      pub held-planned : FoundChanges (runningsIn words) cs (MODES * MODES) → Planned (graphOf words) planWith
+      held-planned found = plan-comes (graphOf words) (held .proper) (planOf words .parts) cs parts-held (subst (λ (rs : List Running). FoundChanges rs cs (MODES * MODES)) runnings-held found)
 
-      two : length words ≡ WORDS
-          → (take (CHANGE-WORDS * CHANGES) (drop (MODE-WORDS * MODES) words) ≡ changesWords plan) ↔ (words ≡ wordsOf (graphOf words) plan)
+      pub held-words : length words ≡ MODES-WORDS → words ++ changesWords cs ≡ wordsOf (graphOf words) planWith
       unfolding wordsOf
-      two long =
-          two-parts (MODE-WORDS * MODES) (CHANGE-WORDS * CHANGES) (modesWords (graphOf words) plan) (changesWords plan) words (length-modes (graphOf words) plan) (length-changes plan)
-          long modes
+      held-words long =
+          ap (λ (l : List ℕ). l ++ changesWords cs)
+          (sym (take-all MODES-WORDS words (omega arith))
+          ∙ parts-joined MODE-WORDS (modeWordsAt (graphOf words) planWith) words MODES
+          (λ k h. held .mode k h .left ∙ ap₂ modeWords (sym (graph-mode k h)) (sym (plan-part k h))))
 
-      pub held-decides : (b : Bool) → length words ≡ WORDS → FoundChanges rs cs (MODES * MODES)
-          → Decides (take (CHANGE-WORDS * CHANGES) (drop (MODE-WORDS * MODES) words) ≡ changesWords (timedBy cs)) b → Decides (Stored words) b
-      held-decides b long changes d =
-          let t = graphOf words in
-          let planned : Planned t plan = plan-comes t proper parts cs parts-found (subst (λ (l : List Running). FoundChanges l cs (MODES * MODES)) runs changes) in (
-            (λ y. leaves-stored (holds-leaves t plan words proper planned (two long .0 (d .0 y)))),
-            (λ s. let (v, l) = stored-held refl s in d .1 (two long .1 (l .left ∙ ap (wordsOf t) (plan-unique t v plan (l .planned) planned)))),
-          )
+-- the modes of words as they are gone through: the first m are held, with their actors on the homes
+module _ (words : List ℕ) where
+  abbrev pub HeldBelow : ℕ → List ℕ → Type 0
+  HeldBelow m homes = Housed (graphOf words) m homes × Below (λ k. Held (part MODE-WORDS k words)) m
+
+  -- all of them
+  pub below-decides : (homes : List ℕ) (r : Bool) → HeldBelow MODES homes → Decides ((i : ℕ) × (i < ACTORS) × (0 < getD homes i 0)) r → Decides (HeldModes words) r
+  below-decides homes r (housed, held) d =
+      let proper = housed-decides (graphOf words) homes r housed (graph-long words) d in
+      ((λ t. record { proper = proper .0 t; mode = held }), (λ h. proper .1 (h .proper)))
+
+  module _ (m : ℕ) (h : m < MODES) where
+    pub mode-slice : take (MODE-WORDS * m + MODE-WORDS - MODE-WORDS * m) (drop (MODE-WORDS * m) words) ≡ part MODE-WORDS m words
+    mode-slice = part-is MODE-WORDS m words
+
+    -- the words of its front, by their two ends
+    abbrev front : List ℕ
+    front = take (MODE-WORDS * m + FRONT-WORDS - MODE-WORDS * m) (drop (MODE-WORDS * m) words)
+
+    actors-at : tab ACTORS (actorIn front) ≡ modeAt (graphOf words) m .actors
+    unfolding modeOf
+    actors-at =
+        let wide : MODE-WORDS * m + FRONT-WORDS - MODE-WORDS * m ≡ FRONT-WORDS = omega arith in
+        ap (λ (n : ℕ). tab ACTORS (actorIn (take n (drop (MODE-WORDS * m) words)))) wide
+        ∙ ap (λ (f : List ℕ). tab ACTORS (actorIn f)) (sym (front-at words m)) ∙ ap (λ (m : Mode). m .actors) (sym (graph-mode words m h))
+
+    module _ (homes : List ℕ) (below : HeldBelow m homes) (held : Held (part MODE-WORDS m words)) where
+      mode-proper : ProperMode (modeAt (graphOf words) m)
+      mode-proper = subst ProperMode (sym (graph-mode words m h)) (held .proper)
+
+      pub below-next : {next : List ℕ} → Below (AtHome homes (tab ACTORS (actorIn front))) ACTORS → next ≡ housedOf homes (tab ACTORS (actorIn front)) → HeldBelow (m + 1) next
+      below-next b e = (
+        subst (Housed (graphOf words) (m + 1)) (sym (e ∙ ap (housedOf homes) actors-at))
+            (housed-next (graphOf words) m homes (below .0) mode-proper (subst (λ (l : List Actor). Below (AtHome homes l) ACTORS) actors-at b)),
+        below-more _ m (below .1) held,
+      )
+
+      pub below-home : HeldModes words → Below (AtHome homes (tab ACTORS (actorIn front))) ACTORS
+      below-home p = subst (λ (l : List Actor). Below (AtHome homes l) ACTORS) (sym actors-at) (at-home-all (graphOf words) m homes (below .0) mode-proper h (p .proper))
+
+-- the words of a planned table hold its modes
+module _ (t : Table) (w : Plan) (proper : ProperTable t) where
+  pub modes-first : take MODES-WORDS (wordsOf t w) ≡ modesWords t w
+  unfolding wordsOf
+  modes-first = take-at (modesWords t w) (changesWords (w .changes)) MODES-WORDS (length-modes t w)
+
+  pub modes-graph : graphOf (modesWords t w) ≡ t
+  modes-graph = ap graphOf (sym (append-nil (modesWords t w))) ∙ graph-front t w [] proper
+
+  pub modes-held : ((k : ℕ) → k < MODES → IsPart t k (partAt w k)) → HeldModes (modesWords t w)
+  modes-held is =
+      record {
+        proper = subst ProperTable (sym modes-graph) proper;
+        mode = λ k h. subst Held (sym (joined-part MODE-WORDS (modeWordsAt t w) (length-mode-at t w) MODES k h))
+            (words-held (modeAt t k) (partAt w k) 1 (proper .mode k h)
+            ((λ n. is k h .listed (listed-some t k proper h n)), (λ e. is k h .unlisted (λ x. listed-none t k x e))));
+      }
+
+-- words that some accepted table leaves, by what stands there
+module _ (words : List ℕ) where
+  abbrev modes : List ℕ
+  modes = take MODES-WORDS words
+
+  pub stored-modes : Stored words → HeldModes modes
+  stored-modes s =
+      let (t, w, l) = stored-leaves words s in
+      subst HeldModes (sym (ap (take MODES-WORDS) (l .left) ∙ modes-first t w (leaves-proper l))) (modes-held t w (leaves-proper l) (l .planned .part))
+
+  module _ (long : length words ≡ WORDS) (held : HeldModes modes) (cs : List Timing) (found : FoundChanges (runningsIn modes) cs (MODES * MODES)) where
+    modes-long : length modes ≡ MODES-WORDS
+    modes-long = length-take MODES-WORDS words ∙ omega arith
+
+    left : drop MODES-WORDS words ≡ changesWords cs → words ≡ wordsOf (graphOf modes) (planWith modes held cs)
+    left e = sym (take-append-drop MODES-WORDS words) ∙ ap (λ (l : List ℕ). modes ++ l) e ∙ held-words modes held cs modes-long
+
+    there : Stored words → drop MODES-WORDS words ≡ changesWords cs
+    there s =
+        let (t, w, l) = stored-leaves words s in
+        let graph : t ≡ graphOf modes = sym (ap graphOf (ap (take MODES-WORDS) (l .left) ∙ modes-first t w (leaves-proper l)) ∙ modes-graph t w (leaves-proper l)) in
+        let same = plan-unique t w (planWith modes held cs) (l .planned) (subst (λ (t : Table). Planned t (planWith modes held cs)) (sym graph) (held-planned modes held cs found)) in
+        ap (drop MODES-WORDS) (l .left) ∙ changes-words t w ∙ ap (λ (w : Plan). changesWords (w .changes)) same
+
+    pub held-decides : (b : Bool) → Decides (drop MODES-WORDS words ≡ changesWords cs) b → Decides (Stored words) b
+    held-decides b d = (
+      (λ y. leaves-stored (holds-leaves (graphOf modes) (planWith modes held cs) words (held .proper) (held-planned modes held cs found) (left (d .0 y)))),
+      (λ s. d .1 (there s)),
+    )

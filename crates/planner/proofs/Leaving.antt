@@ -1,26 +1,24 @@
 -- Words that some accepted table leaves, by what they hold; and one answer only. Assumes nothing.
-use mathlib.Core.Path.{_≡_, refl, sym, ap, ap₂, subst, _∙_}
-use mathlib.Core.Bool.{true}
+use mathlib.Core.Path.{_≡_, refl, sym, ap, subst, subst₂, _∙_}
 use mathlib.Core.List.{List}
 use Prim.Native.Nat.{ℕ}
 use native.Mathlib.Omega.{arith}
 use lib.ListN.{length}
-use Rattle.numbers.specs.Decides.{Decides, decides-yes, decides-no}
 use Rattle.tables.specs.declared.Table.{Table}
 use Rattle.tables.specs.Proper.{ProperTable}
-use Rattle.reader.specs.declared.Reading.{Reading}
+use Rattle.reader.specs.Told.{Reading}
 use Rattle.reader.specs.Writing.{written}
 use Rattle.reader.proofs.Again.{written-reads, reads-proper, told-one}
-use Rattle.planning.specs.declared.Plan.{Plan}
+use Rattle.planning.specs.Shape.{Plan}
 use Rattle.planning.specs.Plan.{Planned}
 use Rattle.planning.proofs.Unique.{plan-unique}
 use Rattle.layout.specs.Words.{WORDS, wordsOf}
-use Rattle.layout.specs.Read.{graphOf}
+use Rattle.layout.specs.Read.{graphOf, planOf}
 use Rattle.layout.specs.Laws.{length-words, graph-back}
+use Rattle.layout.proofs.Planned.{plan-back}
 use Rattle.planner.specs.declared.Answer.{Answer}
 use Rattle.planner.specs.declared.Answer.the-variants.{Accepted}
-use Rattle.planner.specs.declared.Recalled.{Recalled}
-use Rattle.planner.specs.Plans.{Reads, Plans, wrong-length, not-read, not-planned, accepted, Stored, Leaves, Recalls, not-stored, stored}
+use Rattle.planner.specs.Plans.{Reads, Plans, wrong-length, not-read, not-planned, accepted, Stored, Leaves}
 
 -- a text reads as one table only
 pub reads-one : {text : List ℕ} {t u : Table} → Reads text t → Reads text u → t ≡ u
@@ -54,11 +52,20 @@ module _ {t : Table} {w : Plan} {words : List ℕ} (l : Leaves t w words) where
   pub leaves-graph : graphOf words ≡ t
   leaves-graph = ap graphOf (l .left) ∙ graph-back t w leaves-proper
 
+  -- words hold the plan that leaves them
+  leaves-held : planOf words ≡ w
+  leaves-held = ap planOf (l .left) ∙ plan-back t w leaves-proper (l .planned)
+
 -- what is stored is left by the table that it holds
 pub stored-held : {words : List ℕ} {t : Table} → t ≡ graphOf words → Stored words → (w : Plan) × Leaves t w words
 stored-held {words} {t} e s =
     let (u, w, l) = stored-leaves words s in
     (w, subst (λ (x : Table). Leaves x w words) (sym (leaves-graph l) ∙ sym e) l)
+
+pub stored-whole : (words : List ℕ) → Stored words → Leaves (graphOf words) (planOf words) words
+stored-whole words s =
+    let (t, w, l) = stored-leaves words s in
+    subst₂ (λ (t : Table) (w : Plan). Leaves t w words) (sym (leaves-graph l)) (sym (leaves-held l)) l
 
 -- words are left by one table only, with one plan
 pub leaves-table : {t u : Table} {w v : Plan} {words : List ℕ} → Leaves t w words → Leaves u v words → t ≡ u
@@ -66,18 +73,3 @@ leaves-table p q = sym (leaves-graph p) ∙ leaves-graph q
 
 pub leaves-plan : {t u : Table} {w v : Plan} {words : List ℕ} → Leaves t w words → Leaves u v words → w ≡ v
 leaves-plan {t} {u} {w} {v} p q = plan-unique u w v (subst (λ (x : Table). Planned x w) (leaves-table p q) (p .planned)) (q .planned)
-
-pub recalls-unique : {words : List ℕ} {x y : Recalled} → Recalls words x → Recalls words y → x ≡ y
-recalls-unique (not-stored n) (not-stored m) = refl
-recalls-unique (not-stored n) (stored l) = absurd (n (leaves-stored l))
-recalls-unique (stored l) (not-stored n) = absurd (n (leaves-stored l))
-recalls-unique (stored p) (stored q) = ap₂ (λ (t : Table) (w : Plan). record { good = true; table = t; plan = w }) (leaves-table p q) (leaves-plan p q)
-
--- what is recalled tells whether the words are stored, and what leaves them
-pub recalls-decides : {words : List ℕ} {x : Recalled} → Recalls words x → Decides (Stored words) (x .good)
-recalls-decides (not-stored n) = decides-no n
-recalls-decides (stored l) = decides-yes (leaves-stored l)
-
-pub recalls-leaves : {words : List ℕ} {x : Recalled} → Recalls words x → x .good ≡ true → Leaves (x .table) (x .plan) words
-recalls-leaves (not-stored n) e = let z : _≡_ {A = ℕ} 0 1 = cc in absurd (omega arith)
-recalls-leaves (stored l) e = l

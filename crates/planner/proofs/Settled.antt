@@ -6,14 +6,11 @@ use denote.Triple.Clauses.{AtExit}
 use borrow.Fn.Kinds.{Dens, resT, endedOf}
 use Rattle.numbers.specs.Decides.{decides-unique}
 use Rattle.numbers.proofs.Settles.{Settles}
-use Rattle.planner.proofs.Leaving.{recalls-unique}
 use Rattle.planner.proofs.Answering.{plans-unique, prints-unique}
 use Rattle.planner.proofs.plan.Kinds as plan-kinds
 use Rattle.planner.proofs.plan.Reads as plan
 use Rattle.planner.proofs.is_plan.Kinds as is-plan-kinds
 use Rattle.planner.proofs.is_plan.Reads as is-plan
-use Rattle.planner.proofs.recall.Kinds as recall-kinds
-use Rattle.planner.proofs.recall.Reads as recall
 use Rattle.planner.proofs.print.Kinds as print-kinds
 use Rattle.planner.proofs.print.Reads as print
 
@@ -23,9 +20,6 @@ plan-settled κs a x y s t p q = plans-unique p q
 
 is-plan-settled : Settles 1 is-plan-kinds.ps is-plan-kinds.r is-plan.Post
 is-plan-settled κs a x y s t p q = decides-unique x y p q
-
-recall-settled : Settles 1 recall-kinds.ps recall-kinds.r recall.Post
-recall-settled κs a x y s t p q = recalls-unique p q
 
 print-settled : (κs : Lfts 2) (a : Dens κs print-kinds.ps) (x y : resT print-kinds.r κs .Denot) (s t : AtExit (endedOf 2 print-kinds.ps print-kinds.r) κs)
     → print.Post κs a x s → print.Post κs a y t → (x ≡ y) × (now (s .1 .0) ≡ now (t .1 .0))

@@ -2,3 +2,5 @@
 pub mod Plans
 pub mod Numbers
 pub mod Held
+pub mod Modes
+pub mod Changes

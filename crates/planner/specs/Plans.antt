@@ -1,6 +1,5 @@
 -- What the planner answers for every text and every buffer, and what it leaves in the buffer.
 use mathlib.Core.Path.{_≡_}
-use mathlib.Core.Bool.{true, false}
 use mathlib.Core.List.{List}
 use Prim.Native.Nat.{ℕ}
 use lib.ListN.{length}
@@ -11,7 +10,7 @@ use Rattle.tables.specs.declared.Table.{Table}
 use Rattle.tables.specs.Shape.{emptyTable}
 use Rattle.reader.specs.declared.Answer.the-variants.{Read, Refused as NotRead}
 use Rattle.reader.specs.Told.{Told}
-use Rattle.planning.specs.declared.Plan.{Plan}
+use Rattle.planning.specs.Shape.{Plan}
 use Rattle.planning.specs.declared.Answer.the-variants.{Refused as NotPlanned}
 use Rattle.planning.specs.Nothing.{emptyPlan}
 use Rattle.planning.specs.Plan.{Planned, Planning}
@@ -19,7 +18,6 @@ use Rattle.layout.specs.Words.{WORDS, wordsOf}
 use Rattle.printer.specs.Printed.{PRINTED, planText, Shows}
 use Rattle.planner.specs.declared.Answer.{Answer}
 use Rattle.planner.specs.declared.Answer.the-variants.{Accepted, Refused}
-use Rattle.planner.specs.declared.Recalled.{Recalled}
 use Rattle.planner.specs.declared.Printing.{Printing}
 use Rattle.planner.specs.declared.Printing.the-variants.{Printed, Refused as NotPrinted}
 
@@ -51,14 +49,6 @@ pub record Leaves (t : Table) (w : Plan) (words : List ℕ) : Type 0 where
   pub reads : Reads text t
   pub planned : Planned t w
   pub left : words ≡ wordsOf t w
-
--- What is recalled of some words: nothing where no accepted table leaves them; else the table and its plan.
-abbrev pub forgotten : Recalled
-forgotten = record { good = false; table = emptyTable; plan = emptyPlan }
-
-pub data Recalls (words : List ℕ) : Recalled → Type 0 where
-  not-stored : (Stored words → ⊥) → Recalls words forgotten
-  stored : {t : Table} {w : Plan} → Leaves t w words → Recalls words (record { good = true; table = t; plan = w })
 
 -- What is printed of some words into a buffer of bytes: 15, and the bytes as they stood, where its length is another or no accepted table leaves the words.
 pub data Prints (words before : List ℕ) : Printing → List ℕ → Type 0 where

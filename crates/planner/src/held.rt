@@ -1,59 +1,66 @@
-// A mode that words hold.
-use change::Running;
+// The modes that words hold.
+use layout::MODE_WORDS;
 use layout::compare::blank;
 use layout::compare::mode_holds;
-use layout::load::mode_of;
+use layout::load::channels_of;
 use planning::Answer;
-use planning::changes::idle;
-use planning::changes::running_of;
 use planning::modes::plan_mode;
+use tables::homes::at_home;
+use tables::homes::housed;
+use tables::homes::inhabited;
+use tables::memory::CHANNELS_BYTES;
+use tables::memory::FRONT_WORDS;
 use tables::proper::proper_mode;
+use units::limits::ACTORS;
+use units::limits::MODES;
 ghost use mathlib.Core.Path.{_≡_};
+ghost use Prim.Native.Nat.{_*_};
 ghost use lib.ListN.{length};
+ghost use Rattle.numbers.specs.Decides.{Decides};
+ghost use Rattle.units.specs.Limits.{MODES as MODES-LIMIT};
 ghost use Rattle.layout.specs.Words.{MODE-WORDS};
-ghost use Rattle.planner.specs.Held.{lost, HoldsMode};
+ghost use Rattle.planner.specs.Held.{Held, HeldModes};
 
-// Whether the words of a mode are those of the mode that they hold, with what is planned of it; and that mode as it runs.
-pub(crate) struct Held {
-    pub good: bool,
-    pub running: Running,
-}
-
-fn lose() -> Held
-    ensures { λ r. ⌜ r ≡ lost ⌝ }
-{
-    Held {
-        good: false,
-        running: idle(),
-    }
-}
-
-// Reads a mode back, tests and plans it, and compares.
-pub(crate) fn held_mode(words: &[u64]) -> Held
+// Whether the words of a mode are those of the mode that they hold, with what is planned of it: it is read back, tested, planned and compared.
+pub(crate) fn held_mode(words: &[u64]) -> bool
     requires { ⌜ length (now words) ≡ MODE-WORDS ⌝ }
-    ensures { λ r. ⌜ HoldsMode (now (words .entry)) (r .good) (r .running) ⌝ }
+    ensures { λ r. ⌜ Decides (Held (now (words .entry))) r ⌝ }
 {
-    if blank(words) {
-        return Held {
-            good: true,
-            running: idle(),
-        };
+    if words[0] == 0 {
+        return blank(words);
     }
-    let mode = mode_of(words);
-    if !proper_mode(mode) {
-        return lose();
+    let mut channels = [0u8; CHANNELS_BYTES];
+    channels_of(&words[FRONT_WORDS..MODE_WORDS], &mut channels);
+    if !proper_mode(&words[0..FRONT_WORDS], &channels) {
+        return false;
     }
-    let piece = plan_mode(mode, 1);
+    let piece = plan_mode(&words[0..FRONT_WORDS], &channels, 1);
     let answer = piece.answer;
     if let Answer::Refused(refusal) = answer {
-        return lose();
+        return false;
     }
     let part = piece.part;
-    if !mode_holds(mode, part, words) {
-        return lose();
+    mode_holds(words, &channels, part)
+}
+
+// Whether words hold all modes of a table so, and the table is proper.
+pub(crate) fn modes_hold(words: &[u64]) -> bool
+    requires { ⌜ length (now words) ≡ MODE-WORDS * MODES-LIMIT ⌝ }
+    ensures { λ r. ⌜ Decides (HeldModes (now (words .entry))) r ⌝ }
+{
+    let mut homes = [0usize; ACTORS];
+    for m in 0..MODES {
+        let a = MODE_WORDS * m;
+        let b = a + FRONT_WORDS;
+        let e = a + MODE_WORDS;
+        if !held_mode(&words[a..e]) {
+            return false;
+        }
+        if !at_home(homes, &words[a..b]) {
+            return false;
+        }
+        let next = housed(homes, &words[a..b]);
+        homes = next;
     }
-    Held {
-        good: true,
-        running: running_of(mode, part),
-    }
+    inhabited(homes)
 }

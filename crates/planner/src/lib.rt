@@ -1,40 +1,33 @@
-// The planner: a table into the caller's words, whether words are a plan, the plan that they hold, and what is printed of one.
+// The planner: a table into the caller's words, whether words are a plan, and what is printed of one.
+mod changes;
 mod held;
+mod modes;
 
-use held::held_mode;
-use layout::MODE_WORDS;
+use change::WORKS_WORDS;
+use changes::all_works;
+use changes::changes_hold;
+use changes::put_changes;
+use held::modes_hold;
+use layout::CARRIED_WORDS;
 use layout::MODES_END;
 use layout::WORDS;
-use planning::Plan;
-use planning::changes::changes_of;
-use planning::changes::idle;
-use planning::plan_of;
+use modes::plan_modes;
+use modes::put_modes;
 use printer::PRINTED;
-use tables::Table;
-use tables::homes::at_home;
-use tables::homes::housed;
-use tables::homes::inhabited;
-use tables::proper::proper;
+use tables::memory::TABLE_BYTES;
+use tables::memory::TABLE_WORDS;
 use terms::refusal::NO_PLAN;
 use terms::refusal::Place;
 use terms::refusal::Refusal;
-use units::limits::ACTORS;
 use units::limits::MODES;
 ghost use mathlib.Core.Path.{_≡_};
 ghost use Rattle.numbers.specs.Decides.{Decides};
-ghost use Rattle.planner.specs.Plans.{noPlan, Plans, Stored, Recalls, forgotten, Prints};
+ghost use Rattle.planner.specs.Plans.{noPlan, Plans, Stored, Prints};
 
 // What is answered for a table.
 pub enum Answer {
     Accepted,
     Refused(Refusal),
-}
-
-// A plan that words hold: whether they hold one, its table and what is planned of it.
-pub struct Recalled {
-    pub good: bool,
-    pub table: Table,
-    pub plan: Plan,
 }
 
 // How many bytes were printed.
@@ -60,19 +53,21 @@ pub fn plan(text: &[u8], words: &mut [u64]) -> Answer
     if words.len() != WORDS {
         return Answer::Refused(no_plan());
     }
-    let reading = reader::read(text);
-    let read = reading.answer;
+    let mut fronts = [0u64; TABLE_WORDS];
+    let mut channels = [0u8; TABLE_BYTES];
+    let read = reader::read(text, &mut fronts, &mut channels);
     if let reader::Answer::Refused(refusal) = read {
         return Answer::Refused(refusal);
     }
-    let table = reading.table;
-    let outcome = plan_of(table);
-    let planned = outcome.answer;
+    let mut carried = [0u64; CARRIED_WORDS * MODES];
+    let planned = plan_modes(&mut fronts, &channels, &mut carried);
     if let planning::Answer::Refused(refusal) = planned {
         return Answer::Refused(refusal);
     }
-    let plan = outcome.plan;
-    layout::write(table, plan, words);
+    put_modes(&fronts, &channels, &carried, &mut words[0..MODES_END]);
+    let mut works = [0u64; WORKS_WORDS * MODES];
+    all_works(&words[0..MODES_END], &mut works);
+    put_changes(&works, words);
     Answer::Accepted
 }
 
@@ -83,65 +78,12 @@ pub fn is_plan(words: &[u64]) -> bool
     if words.len() != WORDS {
         return false;
     }
-    let mut homes = [0usize; ACTORS];
-    let mut runnings = [idle(); MODES];
-    for m in 0..MODES {
-        let a = MODE_WORDS * m;
-        let e = a + MODE_WORDS;
-        let held = held_mode(&words[a..e]);
-        if !held.good {
-            return false;
-        }
-        let running = held.running;
-        let actors = running.actors;
-        if !at_home(homes, actors) {
-            return false;
-        }
-        let next = housed(homes, actors);
-        homes = next;
-        runnings[m] = running;
-    }
-    if !inhabited(homes) {
+    if !modes_hold(&words[0..MODES_END]) {
         return false;
     }
-    layout::compare::changes_hold(changes_of(runnings), &words[MODES_END..WORDS])
-}
-
-fn forget() -> Recalled
-    ensures { λ r. ⌜ r ≡ forgotten ⌝ }
-{
-    Recalled {
-        good: false,
-        table: tables::empty(),
-        plan: planning::empty(),
-    }
-}
-
-// The plan that words hold, whatever they are.
-pub fn recall(words: &[u64]) -> Recalled
-    ensures { λ r. ⌜ Recalls (now (words .entry)) r ⌝ }
-{
-    if words.len() != WORDS {
-        return forget();
-    }
-    let table = layout::graph_of(words);
-    if !proper(table) {
-        return forget();
-    }
-    let outcome = plan_of(table);
-    let planned = outcome.answer;
-    if let planning::Answer::Refused(refusal) = planned {
-        return forget();
-    }
-    let plan = outcome.plan;
-    if !layout::holds(table, plan, words) {
-        return forget();
-    }
-    Recalled {
-        good: true,
-        table,
-        plan,
-    }
+    let mut works = [0u64; WORKS_WORDS * MODES];
+    all_works(&words[0..MODES_END], &mut works);
+    changes_hold(&works, words)
 }
 
 // Prints the plan that words hold, in a buffer of the one length.
@@ -151,11 +93,8 @@ pub fn print(words: &[u64], out: &mut [u8]) -> Printing
     if out.len() != PRINTED {
         return Printing::Refused(no_plan());
     }
-    let recalled = recall(words);
-    if !recalled.good {
+    if !is_plan(words) {
         return Printing::Refused(no_plan());
     }
-    let table = recalled.table;
-    let plan = recalled.plan;
-    Printing::Printed(printer::print(table, plan, out))
+    Printing::Printed(printer::print(words, out))
 }

@@ -39,7 +39,7 @@ use Rattle.schedule.proofs.Sound.{channel-paced}
 use Rattle.schedule.proofs.Laws.{starts-within}
 use Rattle.change.specs.declared.Timing.{Timing}
 use Rattle.planning.specs.declared.ModePlan.{ModePlan}
-use Rattle.planning.specs.declared.Plan.{Plan}
+use Rattle.planning.specs.Shape.{Plan}
 use Rattle.planning.specs.Nothing.{noTiming, emptyPart}
 use Rattle.planning.specs.Plan.{partAt, changeAt, Listed, ModePlanned, IsPart, Leads, IsChange, Planned}
 use Rattle.planning.proofs.Told.{judgementOf, planned-numbers, planned-judged}
@@ -158,7 +158,7 @@ mode-small m p proper w =
       starts-long = ap length (w .starts) ∙ length-tab ACTORS _;
       starts = λ i. rw (w .starts) (small-actors (λ (t : Tick). t .0 ≤ MOST-START .0) m s (tick 0) (omega arith) (λ i a. starts-small i) i);
       sizes-long = w .sizes .long;
-      sizes = sizes-small m (p .periods) s (p .sizes) (channel-paced m (judgementOf ds p) proper x (n .acyclic) (planned-numbers w ds ranked)) starts-small (w .sizes);
+      sizes = sizes-small m (p .periods) s (p .sizes) (channel-paced m (judgementOf ds p) proper x (planned-numbers w ds ranked)) starts-small (w .sizes);
       tokens-long = ap length (w .tokens) ∙ length-tab CHANNELS _;
       tokens = λ k. rw (w .tokens)
           (small-channels (λ (v : Token). v .0 ≤ MOST-CARRIED .0) m (tokensOn m (p .firings)) (token 0) zero-le

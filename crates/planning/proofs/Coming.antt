@@ -12,17 +12,17 @@ use Rattle.tables.specs.declared.Mode.{Mode}
 use Rattle.tables.specs.declared.Table.{Table}
 use Rattle.tables.specs.Shape.{modeAt}
 use Rattle.tables.specs.Proper.{ProperTable}
-use Rattle.change.specs.declared.Running.{Running}
+use Rattle.change.specs.Work.{Running}
 use Rattle.change.specs.declared.Timing.{Timing}
 use Rattle.planning.specs.declared.ModePlan.{ModePlan}
-use Rattle.planning.specs.declared.Plan.{Plan}
+use Rattle.planning.specs.Shape.{Plan}
 use Rattle.planning.specs.declared.Answer.{Answer}
 use Rattle.planning.specs.declared.Answer.the-variants.{Planned as IsPlanned, Refused as IsRefused}
 use Rattle.planning.specs.Nothing.{noPart}
 use Rattle.planning.specs.Plan.{changeAt, Listed, IsPart, IsChange, Planned}
 use Rattle.planning.specs.OneMode.{Comes}
 use Rattle.planning.specs.Changes.{noRunning, runningAt, Between, FoundChanges, runningOf}
-use Rattle.planning.specs.Steps.{AnyComes, AllCome, runningsOf, FoundParts}
+use Rattle.planning.specs.Steps.{AnyComes, Refusing, runningsOf, FoundParts}
 use Rattle.planning.proofs.Running.{listed-some, listed-none}
 
 -- a mode that has an actor
@@ -41,8 +41,7 @@ module _ (t : Table) (proper : ProperTable t) (k : ℕ) (l : k < MODES) where
       none h (no n) = absurd (h (listed-some t k proper l n))
 
   -- the modes below are planned
-  pub refusal-comes : (ps : List ModePlan) (a : Answer) (r : Refusal) (p : ModePlan) → FoundParts t ps k → AnyComes (modeAt t k) (k + 1) a p → a ≡ IsRefused r
-      → AllCome t (IsRefused r) ps
+  pub refusal-comes : (ps : List ModePlan) (a : Answer) (r : Refusal) (p : ModePlan) → FoundParts t ps k → AnyComes (modeAt t k) (k + 1) a p → a ≡ IsRefused r → Refusing t r
   refusal-comes ps a r p made comes e =
       let (some, refused) = subst (λ (a : Answer). AnyComes (modeAt t k) (k + 1) a p) e comes in (
         k,

@@ -16,7 +16,7 @@ use Rattle.tables.specs.declared.Table.{Table}
 use Rattle.tables.specs.Shape.{modeAt}
 use Rattle.tables.specs.Proper.{ProperMode, ProperTable}
 use Rattle.planning.specs.declared.ModePlan.{ModePlan}
-use Rattle.planning.specs.declared.Outcome.{Outcome}
+use Rattle.planning.specs.Shape.{Outcome}
 use Rattle.planning.specs.declared.Answer.{Answer}
 use Rattle.planning.specs.declared.Answer.the-variants.{Planned as IsPlanned, Refused as IsRefused}
 use Rattle.planning.specs.Nothing.{noPart, emptyPart}

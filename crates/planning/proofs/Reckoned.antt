@@ -23,10 +23,10 @@ use Rattle.schedule.specs.declared.Timing.{Timing as Lateness}
 use Rattle.schedule.specs.declared.Timing.the-variants.{Late, OnTime}
 use Rattle.schedule.specs.Model.{scheduleOf}
 use Rattle.schedule.proofs.Modelled.{schedule-scheduled}
-use Rattle.change.specs.declared.Running.{Running}
+use Rattle.change.specs.Work.{Running}
 use Rattle.change.specs.declared.Timing.{Timing}
 use Rattle.change.specs.Change.{worstOf}
-use Rattle.change.specs.Running.{timesIn, Ready}
+use Rattle.change.specs.Running.{modeTimes, Ready}
 use Rattle.change.specs.Waits.{overlapOf, offsetFrom}
 use Rattle.change.proofs.Offsets.{found}
 use Rattle.planning.specs.declared.ModePlan.{ModePlan}
@@ -92,7 +92,7 @@ module _ (m : Mode) (n : ℕ) (proper : ProperMode m) where
 
 -- the change between two modes as they run, where there is one
 abbrev changeBy : Running → Running → Tick → Timing
-changeBy old new d = record { overlap = overlapOf old new; offset = d; worst = worstOf (timesIn old) (timesIn new) d }
+changeBy old new d = record { overlap = overlapOf old new; offset = d; worst = worstOf (modeTimes old) (modeTimes new) d }
 
 abbrev changeFor : Running → Running → ℕ → ℕ → Timing
 changeFor old new k l =

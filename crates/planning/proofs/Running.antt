@@ -8,12 +8,11 @@ use native.Mathlib.Nat.{lt-of-not-le, lt-of-lt-of-le, mul-comm}
 use native.Mathlib.Omega.{arith}
 use native.Mathlib.Decide.{decLe}
 use lib.Dec.{eqb}
-use lib.ListN.{getD, replicate, length-replicate}
-use lib.Seq.{ext-getD}
+use lib.ListN.{getD}
 use Rattle.numbers.specs.Bits.{Has, bit, hasb, has-decides, has-or-not, has-below, some-has, bit-zero}
 use Rattle.numbers.specs.Decides.{decides-true}
 use Rattle.numbers.specs.Fraction.{AtMost, sum-alike, nothing}
-use Rattle.numbers.specs.Tab.{length-tab, getD-tab, getD-replicated}
+use Rattle.numbers.specs.Tab.{length-tab, getD-tab}
 use Rattle.units.specs.Limits.{MODES, ACTORS, MOST-WCET, LOAD-LIMIT, limitOf}
 use Rattle.units.specs.declared.Tick.{Tick}
 use Rattle.units.specs.declared.Firing.{Firing}
@@ -23,7 +22,7 @@ use Rattle.period.specs.Period.{periodOf, shareOf}
 use Rattle.terms.specs.Place.{numberOf}
 use Rattle.tables.specs.declared.Mode.{Mode}
 use Rattle.tables.specs.declared.Table.{Table}
-use Rattle.tables.specs.Shape.{modeAt, actorAt, Active, noActor}
+use Rattle.tables.specs.Shape.{modeAt, actorAt, Active}
 use Rattle.tables.specs.Proper.{ProperMode, ProperTable}
 use Rattle.graph.specs.Balance.{firingsOf}
 use Rattle.graph.specs.Load.{Overloaded, isOn, askedBy, askedOf, loadOf}
@@ -33,13 +32,13 @@ use Rattle.schedule.specs.Starts.{Late}
 use Rattle.schedule.proofs.Sound.{at-actor}
 use Rattle.change.specs.Work.{Fitting}
 use Rattle.change.specs.Change.{periodIn, Bearable}
-use Rattle.change.specs.Running.{timesIn, Ready}
+use Rattle.change.specs.Running.{modeTimes, Ready}
 use Rattle.planning.specs.declared.ModePlan.{ModePlan}
 use Rattle.planning.specs.Nothing.{noPart}
-use Rattle.planning.specs.Plan.{Listed, ModePlanned, IsPart, timesOf}
-use Rattle.planning.specs.Changes.{noRunning, idleRunning, AllReady, runningOf}
+use Rattle.planning.specs.Plan.{Listed, ModePlanned, timesOf}
+use Rattle.planning.specs.Changes.{noRunning, AllReady, runningOf}
 use Rattle.planning.specs.Steps.{runningsOf, FoundParts}
-use Rattle.planning.proofs.Bounds.{mode-small}
+use Rattle.planning.proofs.Bounds.{SmallPart, mode-small}
 
 -- a mode with an actor is listed
 pub listed-some : (t : Table) (k : ℕ) → ProperTable t → k < MODES → (modeAt t k .active ≡ 0 → ⊥) → Listed t k
@@ -80,7 +79,7 @@ module _ (m : Mode) (proper : ProperMode m) where
         go i l true e false = refl
         go i l false e c = refl
 
-    borne : ((q : ℕ) → Overloaded m x (p .iteration) q → ⊥) → Bearable limitOf (timesIn (runningOf m p))
+    borne : ((q : ℕ) → Overloaded m x (p .iteration) q → ⊥) → Bearable limitOf (modeTimes (runningOf m p))
     borne bears q l h = subst (λ f. AtMost f LOAD-LIMIT) (sym (asks q)) (go (decLe _ _))
       where
         go : Dec (AtMost (loadOf m x (p .iteration) q) LOAD-LIMIT) → AtMost (loadOf m x (p .iteration) q) LOAD-LIMIT
@@ -110,28 +109,22 @@ module _ (m : Mode) (proper : ProperMode m) where
         works = refl;
       }
 
-  pub mode-fitting : (p : ModePlan) → ModePlanned m p → Fitting (m .actors) (p .firings) (p .starts)
-  mode-fitting p w =
-      let small = mode-small m p proper w in
-      record {
-        actors-long = proper .actors-long;
-        firings-long = small .firings-long;
-        starts-long = small .starts-long;
-        wcet = wcet-small;
-        few = λ i h. small .firings i;
-      }
+  -- its start-up ends with the start of its sink
+  pub startup-sink : (p : ModePlan) → ModePlanned m p → p .startup ≡ getD (p .starts) (p .sink) (tick 0)
+  startup-sink p w =
+      let sink = w .balanced .ends .1 .0 in
+      w .startup ∙ sym (ap (λ (l : List Tick). getD l (p .sink) (tick 0)) (w .starts) ∙ at-actor m (w .begin) (tick 0) (p .sink) (sink .0, sink .1))
+
+  -- with small numbers it fits what is summed of it
+  pub small-fitting : (p : ModePlan) → SmallPart p → Fitting (runningOf m p)
+  small-fitting p small = record { wcet = wcet-small; few = λ i l. small .firings i; nowhere = nowhere }
+    where
+      nowhere : (i : ℕ) → i < ACTORS → actorAt m i .processor ≡ 0 → actorAt m i .wcet .0 ≡ 0
+      nowhere i l e =
+          ⊎-elim (λ (h : Has (m .active) i). absurd (omega (arith, e, proper .actor i l h .some-processor)))
+          (λ (z : bit (m .active) i ≡ 0). rw (proper .no-actor i l (λ h. omega arith)) refl) (has-or-not (m .active) i)
 
 module _ (t : Table) (proper : ProperTable t) where
-  -- a mode that is not listed has no actor and no part
-  pub part-idle : (k : ℕ) (p : ModePlan) → k < MODES → IsPart t k p → modeAt t k .active ≡ 0 → idleRunning ≡ runningOf (modeAt t k) p
-  part-idle k p l is e =
-      let m = modeAt t k in
-      let none : (i : ℕ) → i < ACTORS → Has (m .active) i → ⊥ = λ i h a. listed-none t k (l, (i, (h, a))) e in
-      let actors : m .actors ≡ replicate ACTORS noActor
-      = ext-getD noActor (m .actors) (replicate ACTORS noActor) (proper .mode k l .actors-long ∙ sym (length-replicate ACTORS noActor))
-      (λ i h. proper .mode k l .no-actor i (omega (arith, proper .mode k l .actors-long)) (none i (omega (arith, proper .mode k l .actors-long))) ∙ sym (getD-replicated ACTORS i noActor)) in
-      rw (is .unlisted (λ w. listed-none t k w e), e, actors)
-
   -- all modes of a plan that have an actor
   pub all-ready : (ps : List ModePlan) → FoundParts t ps MODES → AllReady (runningsOf t ps)
   all-ready ps made =

@@ -31,19 +31,18 @@ use Rattle.graph.proofs.Unique.{only-unique, of-actors, smallest-same, lengths-
 use Rattle.schedule.specs.Starts.{Starts, Late}
 use Rattle.schedule.specs.Scheduled.{Scheduled}
 use Rattle.schedule.proofs.Unique.{starts-unique, scheduled-unique}
-use Rattle.change.specs.declared.Running.{Running}
+use Rattle.change.specs.Work.{Running}
 use Rattle.change.specs.declared.Timing.{Timing}
 use Rattle.change.specs.Change.{Changes, changes-unique}
 use Rattle.planning.specs.declared.ModePlan.{ModePlan}
-use Rattle.planning.specs.declared.Plan.{Plan}
+use Rattle.planning.specs.Shape.{Plan, Outcome}
 use Rattle.planning.specs.declared.modes.Piece.{Piece}
 use Rattle.planning.specs.declared.Answer.{Answer}
 use Rattle.planning.specs.declared.Answer.the-variants.{Refused as IsRefused, Planned as IsPlanned}
-use Rattle.planning.specs.declared.Outcome.{Outcome}
 use Rattle.planning.specs.Nothing.{noPart, noTiming, emptyPlan}
 use Rattle.planning.specs.Plan.{changeAt, Listed, periodsOf, Balanced, ModeRefused, by-6, by-7, by-8, by-9, by-10, ModePlanned, IsPart, timesOf, Leads, IsChange, Planned, Planning, refused, planned}
 use Rattle.planning.specs.OneMode.{Comes}
-use Rattle.planning.specs.Changes.{runningAt, Between, FoundChanges}
+use Rattle.planning.specs.Changes.{Between}
 use Rattle.planning.specs.Steps.{partFrom}
 use Rattle.planning.proofs.Told.{unbalanced-not, judgementOf, timetableOf, planned-scheduled}
 
@@ -131,8 +130,8 @@ comes-unique m n x y = go (x .answer) (y .answer) (x .part) (y .part)
     go (IsRefused r) IsPlanned x y p q = absurd (planned-refused q (p .0))
     go (IsRefused r) (IsRefused s) x y p q = ap₂ (λ (r : Refusal) (p : ModePlan). record { answer = IsRefused r; part = p }) (refusal-unique (p .0) (q .0)) (p .1 ∙ sym (q .1))
 
--- there is one change between two modes as they run, and one list of the changes between all
-between-unique : (old new : Running) (k l : ℕ) {c d : Timing} → Between old new k l c → Between old new k l d → c ≡ d
+-- there is one change between two modes as they run
+pub between-unique : (old new : Running) (k l : ℕ) {c d : Timing} → Between old new k l c → Between old new k l d → c ≡ d
 between-unique old new k l {c} {d} p q = go (ℕ-discrete (old .active) 0) (ℕ-discrete (new .active) 0) (ℕ-discrete k l)
   where
     go : Dec (old .active ≡ 0) → Dec (new .active ≡ 0) → Dec (k ≡ l) → c ≡ d
@@ -140,11 +139,6 @@ between-unique old new k l {c} {d} p q = go (ℕ-discrete (old .active) 0) (ℕ-
     go (no a) (no b) (yes e) = p .1 (λ h. h .2 e) ∙ sym (q .1 (λ h. h .2 e))
     go (no a) (yes b) n = p .1 (λ h. h .1 b) ∙ sym (q .1 (λ h. h .1 b))
     go (yes a) b n = p .1 (λ h. h .0 a) ∙ sym (q .1 (λ h. h .0 a))
-
-pub changes-found-unique : (rs : List Running) {x y : List Timing} → FoundChanges rs x (MODES * MODES) → FoundChanges rs y (MODES * MODES) → x ≡ y
-changes-found-unique rs {x} {y} p q =
-    ext-getD noTiming x y (p .long ∙ sym (q .long))
-    (λ n h. let l : n < MODES * MODES = omega (arith, p .long) in between-unique (runningAt rs (n / MODES)) (runningAt rs (n % MODES)) (n / MODES) (n % MODES) (p .each n l) (q .each n l))
 
 module _ (t : Table) where
   -- a mode is listed or not

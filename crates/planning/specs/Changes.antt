@@ -7,14 +7,12 @@ use Rattle.numbers.specs.Filled.{Filled}
 use Rattle.units.specs.Ticks.{tick}
 use Rattle.units.specs.Limits.{MODES}
 use Rattle.tables.specs.declared.Mode.{Mode}
-use Rattle.tables.specs.Shape.{emptyMode}
-use Rattle.change.specs.declared.Running.{Running}
 use Rattle.change.specs.declared.Timing.{Timing}
 use Rattle.change.specs.Change.{Changes}
-use Rattle.change.specs.Work.{preparedOf}
-use Rattle.change.specs.Running.{timesIn, Ready}
+use Rattle.change.specs.Work.{Running, preparedOf}
+use Rattle.change.specs.Running.{modeTimes, Ready}
 use Rattle.planning.specs.declared.ModePlan.{ModePlan}
-use Rattle.planning.specs.Nothing.{noTiming, emptyPart}
+use Rattle.planning.specs.Nothing.{noTiming}
 
 -- a planned mode as it is kept to run
 abbrev pub runningOf : Mode → ModePlan → Running
@@ -34,10 +32,6 @@ noRunning =
       works = [];
     }
 
--- a mode that is not listed, as it runs: nothing does
-abbrev pub idleRunning : Running
-idleRunning = runningOf emptyMode emptyPart
-
 abbrev pub runningAt : List Running → ℕ → Running
 runningAt rs k = getD rs k noRunning
 
@@ -49,7 +43,7 @@ pub record AllReady (rs : List Running) : Type 0 where
 -- the change from one running mode at place k to another at place l, where both have an actor; or none
 abbrev pub Between : Running → Running → ℕ → ℕ → Timing → Type 0
 Between old new k l c =
-    ((old .active ≡ 0 → ⊥) → (new .active ≡ 0 → ⊥) → (k ≡ l → ⊥) → Changes (timesIn old) (timesIn new) c)
+    ((old .active ≡ 0 → ⊥) → (new .active ≡ 0 → ⊥) → (k ≡ l → ⊥) → Changes (modeTimes old) (modeTimes new) c)
     × (((old .active ≡ 0 → ⊥) × (new .active ≡ 0 → ⊥) × (k ≡ l → ⊥) → ⊥) → c ≡ noTiming)
 
 -- at place n of all pairs

@@ -1,4 +1,5 @@
 -- The plan of a table.
+pub mod Shape
 pub mod Nothing
 pub mod Plan
 pub mod Numbers

@@ -8,7 +8,7 @@ use Rattle.units.specs.Limits.{MODES, ACTORS, CHANNELS}
 use Rattle.units.specs.Firings.{firing}
 use Rattle.change.specs.declared.Timing.{Timing}
 use Rattle.planning.specs.declared.ModePlan.{ModePlan}
-use Rattle.planning.specs.declared.Plan.{Plan}
+use Rattle.planning.specs.Shape.{Plan}
 
 -- past the end of an array of parts
 abbrev pub noPart : ModePlan

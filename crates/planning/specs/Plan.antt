@@ -27,9 +27,8 @@ use Rattle.schedule.specs.Scheduled.{Sizes, ofChannels, tokensOn}
 use Rattle.change.specs.declared.Timing.{Timing}
 use Rattle.change.specs.Change.{ModeTimes, Changes}
 use Rattle.planning.specs.declared.ModePlan.{ModePlan}
-use Rattle.planning.specs.declared.Plan.{Plan}
+use Rattle.planning.specs.Shape.{Plan, Outcome}
 use Rattle.planning.specs.declared.Answer.the-variants.{Planned as IsPlanned, Refused as IsRefused}
-use Rattle.planning.specs.declared.Outcome.{Outcome}
 use Rattle.planning.specs.Nothing.{noPart, emptyPart, noTiming, emptyPlan}
 
 -- what is planned of mode k, and of the change from mode k to mode l

@@ -7,10 +7,11 @@ use Rattle.numbers.specs.Filled.{Filled}
 use Rattle.numbers.specs.Tab.{tab}
 use Rattle.units.specs.Limits.{MODES}
 use Rattle.terms.specs.Place.{numberOf}
+use Rattle.terms.specs.declared.refusal.Refusal.{Refusal}
 use Rattle.tables.specs.declared.Mode.{Mode}
 use Rattle.tables.specs.declared.Table.{Table}
 use Rattle.tables.specs.Shape.{modeAt}
-use Rattle.change.specs.declared.Running.{Running}
+use Rattle.change.specs.Work.{Running}
 use Rattle.graph.specs.declared.Judgement.{Judgement}
 use Rattle.schedule.specs.declared.Timetable.{Timetable}
 use Rattle.planning.specs.declared.ModePlan.{ModePlan}
@@ -44,11 +45,10 @@ abbrev pub AnyComes : Mode → ℕ → Answer → ModePlan → Type 0
 AnyComes m n IsPlanned p = ((m .active ≡ 0 → ⊥) → ModePlanned m p) × (m .active ≡ 0 → p ≡ emptyPart)
 AnyComes m n (IsRefused r) p = (m .active ≡ 0 → ⊥) × ModeRefused m n r
 
--- what comes of all modes: their parts, or the refusal of the lowest that is refused
-abbrev pub AllCome : Table → Answer → List ModePlan → Type 0
-AllCome t IsPlanned ps = FoundParts t ps MODES
-AllCome t (IsRefused r) ps =
-    (k : ℕ) × Listed t k × ((l : ℕ) → l < k → Listed t l → (p : ModePlan) × ModePlanned (modeAt t l) p) × ModeRefused (modeAt t k) (numberOf k) r
+-- the lowest mode that is refused, of those that are listed, refuses the table by r
+abbrev pub Refusing : Table → Refusal → Type 0
+Refusing t r = (k : ℕ) × Listed t k × ((l : ℕ) → l < k → Listed t l → (p : ModePlan) × ModePlanned (modeAt t l) p) × ModeRefused (modeAt t k) (numberOf k) r
 
+-- the modes as they run
 abbrev pub runningsOf : Table → List ModePlan → List Running
 runningsOf t ps = tab MODES (λ k. runningOf (modeAt t k) (getD ps k noPart))

@@ -1,4 +1,4 @@
-// The modes of a table: what is planned of each, or its refusal.
+// What is planned of a mode, or its refusal.
 use crate::Answer;
 use crate::ModePlan;
 use graph::Judgement;
@@ -7,8 +7,6 @@ use graph::judge;
 use schedule::Timetable;
 use schedule::Timing;
 use schedule::schedule;
-use tables::Mode;
-use tables::Table;
 use terms::place::number_of;
 use terms::refusal::CYCLE;
 use terms::refusal::LATE;
@@ -22,27 +20,20 @@ use units::Tick;
 use units::Token;
 use units::limits::ACTORS;
 use units::limits::CHANNELS;
-use units::limits::MODES;
 ghost use mathlib.Core.Path.{_≡_};
 ghost use Rattle.terms.specs.Refusal.{refusalAt};
-ghost use Rattle.tables.specs.Proper.{ProperMode, ProperTable};
+ghost use Rattle.tables.specs.Memory.{modeIn, Stands};
 ghost use Rattle.graph.specs.declared.Verdict.the-variants.{Sound};
 ghost use Rattle.graph.specs.Judged.{Judged};
 ghost use Rattle.planning.specs.declared.Answer.the-variants.{Refused};
 ghost use Rattle.planning.specs.Nothing.{emptyPart};
 ghost use Rattle.planning.specs.OneMode.{Comes};
-ghost use Rattle.planning.specs.Steps.{partFrom, AnyComes, AllCome};
+ghost use Rattle.planning.specs.Steps.{partFrom};
 
 // What comes of a mode: its answer, and its part.
 pub struct Piece {
     pub answer: Answer,
     pub part: ModePlan,
-}
-
-// What comes of the modes of a table: its answer, and their parts.
-pub struct Pieces {
-    pub answer: Answer,
-    pub parts: [ModePlan; MODES],
 }
 
 // Nothing planned of a mode.
@@ -98,11 +89,11 @@ fn part_of(judged: Judgement, times: Timetable) -> ModePlan
 }
 
 // What comes of a mode whose judgement is sound; `number` is the mode's.
-fn timed(mode: Mode, number: u64, judged: Judgement) -> Piece
-    requires { ⌜ ProperMode mode × Judged mode judged × (judged .verdict ≡ Sound) ⌝ }
-    ensures { λ r. ⌜ Comes mode number (r .answer) (r .part) ⌝ }
+fn timed(front: &[u64], channels: &[u8], number: u64, judged: Judgement) -> Piece
+    requires { ⌜ Stands (now front) (now channels) × Judged (modeIn (now front) (now channels)) judged × (judged .verdict ≡ Sound) ⌝ }
+    ensures { λ r. ⌜ Comes (modeIn (now (front .entry)) (now (channels .entry))) number (r .answer) (r .part) ⌝ }
 {
-    let times = schedule(mode, judged);
+    let times = schedule(front, channels, judged);
     let timing = times.timing;
     match timing {
         Timing::Late(actor) => refused(
@@ -120,11 +111,11 @@ fn timed(mode: Mode, number: u64, judged: Judgement) -> Piece
 }
 
 // What comes of a mode by itself; `number` is the mode's.
-pub fn plan_mode(mode: Mode, number: u64) -> Piece
-    requires { ⌜ ProperMode mode ⌝ }
-    ensures { λ r. ⌜ Comes mode number (r .answer) (r .part) ⌝ }
+pub fn plan_mode(front: &[u64], channels: &[u8], number: u64) -> Piece
+    requires { ⌜ Stands (now front) (now channels) ⌝ }
+    ensures { λ r. ⌜ Comes (modeIn (now (front .entry)) (now (channels .entry))) number (r .answer) (r .part) ⌝ }
 {
-    let judged = judge(mode);
+    let judged = judge(front, channels);
     let verdict = judged.verdict;
     match verdict {
         Verdict::Cyclic => refused(CYCLE, Place::Mode(number)),
@@ -137,44 +128,6 @@ pub fn plan_mode(mode: Mode, number: u64) -> Piece
                 processor: number_of(processor),
             },
         ),
-        Verdict::Sound => timed(mode, number, judged),
-    }
-}
-
-// What comes of a mode that may be unlisted; `number` is the mode's.
-fn any_of(mode: Mode, number: u64) -> Piece
-    requires { ⌜ ProperMode mode ⌝ }
-    ensures { λ r. ⌜ AnyComes mode number (r .answer) (r .part) ⌝ }
-{
-    if mode.active == 0 {
-        return Piece {
-            answer: Answer::Planned,
-            part: nothing(),
-        };
-    }
-    plan_mode(mode, number)
-}
-
-// What comes of the modes of a table, from the lowest on, until one is refused.
-pub(crate) fn parts_of(table: Table) -> Pieces
-    requires { ⌜ ProperTable table ⌝ }
-    ensures { λ r. ⌜ AllCome table (r .answer) (r .parts) ⌝ }
-{
-    let mut parts = [nothing(); MODES];
-    for k in 0..MODES {
-        let piece = any_of(table.modes[k], number_of(k));
-        let answer = piece.answer;
-        if let Answer::Refused(refusal) = answer {
-            return Pieces {
-                answer: Answer::Refused(refusal),
-                parts,
-            };
-        }
-        let part = piece.part;
-        parts[k] = part;
-    }
-    Pieces {
-        answer: Answer::Planned,
-        parts,
+        Verdict::Sound => timed(front, channels, number, judged),
     }
 }

@@ -22,7 +22,7 @@ use Rattle.csv.specs.Decimal.{decimal}
 use Rattle.csv.specs.Writing.{joined}
 use Rattle.change.specs.declared.Timing.{Timing}
 use Rattle.planning.specs.declared.ModePlan.{ModePlan}
-use Rattle.planning.specs.declared.Plan.{Plan}
+use Rattle.planning.specs.Shape.{Plan}
 use Rattle.planning.specs.Plan.{partAt}
 use Rattle.printer.specs.declared.bytes.Five.{Five}
 use Rattle.printer.specs.Texts.{texts}

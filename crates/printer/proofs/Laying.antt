@@ -1,5 +1,5 @@
 -- Laws of bytes laid over a buffer. Assumes nothing.
-use mathlib.Core.Path.{_≡_, refl, ap, _∙_}
+use mathlib.Core.Path.{_≡_, refl, sym, ap, subst, _∙_}
 use mathlib.Core.Bool.{Bool, true, false}
 use mathlib.Core.List.{List, [], _++_, append-nil}
 use Prim.Native.Nat.{ℕ, zero, suc, _+_, _-_, _≤_, _<_}
@@ -72,6 +72,13 @@ shown {l} {k} {j} {s} {end} e r a b =
       long = omega (arith, a .ends);
       is = laid-all (laid-then a b) (omega (arith, a .ends, r .fits)) ∙ ap (λ (m : ℕ). s ++ replicate (m - end) 0) (n ∙ e);
     }
+
+-- the same text, said otherwise
+pub room-as : {l s t : List ℕ} {at : ℕ} → s ≡ t → Room l at s → Room l at t
+room-as {l} {s} {t} {at} e r = subst (λ (x : List ℕ). Room l at x) e r
+
+pub laid-as : {l k s t : List ℕ} {at end : ℕ} → s ≡ t → Laid l at t k end → Laid l at s k end
+laid-as {l} {k} {s} {t} {at} {end} e a = subst (λ (x : List ℕ). Laid l at x k end) (sym e) a
 
 pub room-end : {l k s : List ℕ} {at end : ℕ} → Room l at s → Laid l at s k end → end ≤ length k
 room-end r a = omega (arith, r .fits, a .ends, laid-length a)

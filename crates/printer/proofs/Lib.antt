@@ -2,4 +2,5 @@
 mod Laying
 pub mod Digits
 mod Fitting
+mod Held
 mod Settled

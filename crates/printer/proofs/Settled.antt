@@ -18,8 +18,8 @@ shows-one {text} p q =
     let e = p .long ∙ sym (q .long) in
     (e, p .is ∙ ap (λ (n : ℕ). text ++ replicate (PRINTED - n) 0) e ∙ sym (q .is))
 
-print-settled : (κs : Lfts 1) (a : Dens κs print-kinds.ps) (x y : resT print-kinds.r κs .Denot) (s t : AtExit (endedOf 1 print-kinds.ps print-kinds.r) κs)
-    → print.Post κs a x s → print.Post κs a y t → (x ≡ y) × (now (s .1 .1 .0) ≡ now (t .1 .1 .0))
+print-settled : (κs : Lfts 2) (a : Dens κs print-kinds.ps) (x y : resT print-kinds.r κs .Denot) (s t : AtExit (endedOf 2 print-kinds.ps print-kinds.r) κs)
+    → print.Post κs a x s → print.Post κs a y t → (x ≡ y) × (now (s .1 .0) ≡ now (t .1 .0))
 print-settled κs a x y s t p q = shows-one p q
 
 print-refusal-settled : (κs : Lfts 1) (a : Dens κs print-refusal-kinds.ps) (x y : resT print-refusal-kinds.r κs .Denot) (s t : AtExit (endedOf 1 print-refusal-kinds.ps print-refusal-kinds.r) κs)

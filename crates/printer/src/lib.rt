@@ -3,8 +3,7 @@ mod bytes;
 mod lines;
 
 use crate::bytes::Five;
-use planning::Plan;
-use tables::Table;
+use layout::MODE_WORDS;
 use terms::refusal::Refusal;
 use units::digits;
 use units::limits::ACTORS;
@@ -13,6 +12,8 @@ use units::limits::MODES;
 ghost use mathlib.Core.Path.{_≡_};
 ghost use lib.ListN.{length};
 ghost use Rattle.csv.specs.Laid.{Room, Laid};
+ghost use Rattle.layout.specs.Words.{WORDS};
+ghost use Rattle.layout.specs.Read.{graphOf, planOf};
 ghost use Rattle.printer.specs.Printed.{PRINTED as PRINTED-LIMIT, Small, Shows, planText, refusalText, modesText};
 
 // The most bytes of a line: its word, five commas, its numbers, and CRLF.
@@ -36,28 +37,27 @@ pub const PRINTED: usize = MODES * (ACTORS * ACTOR_LINE + CHANNELS * CHANNEL_LIN
     + MODES * ((MODES - 1) * CHANGE_LINE);
 
 // The modes, from the front of the buffer on.
-fn modes(out: &mut [u8], table: Table, plan: Plan) -> usize
-    requires { ⌜ Room (now out) 0 (modesText table plan) × Small table plan ⌝ }
-    ensures { λ r. ⌜ Laid (now (out .entry)) 0 (modesText table plan) (now (out .exit)) r ⌝ }
+fn modes(out: &mut [u8], words: &[u64]) -> usize
+    requires { ⌜ Room (now out) 0 (modesText (graphOf (now words)) (planOf (now words))) × (length (now words) ≡ WORDS) × Small (graphOf (now words)) (planOf (now words)) ⌝ }
+    ensures { λ r. ⌜ Laid (now (out .entry)) 0 (modesText (graphOf (now (words .entry))) (planOf (now (words .entry)))) (now (out .exit)) r ⌝ }
 {
     let mut at: usize = 0;
     for m in 0..MODES {
-        let mode = table.modes[m];
-        let part = plan.parts[m];
-        at = lines::mode(out, at, m, mode, part);
+        let a = MODE_WORDS * m;
+        let e = a + MODE_WORDS;
+        at = lines::mode(out, at, m, &words[a..e]);
     }
     at
 }
 
-// Prints a plan, and returns the length of its text.
-pub fn print(table: Table, plan: Plan, out: &mut [u8]) -> usize
-    requires { ⌜ (length (now out) ≡ PRINTED-LIMIT) × Small table plan ⌝ }
-    ensures { λ r. ⌜ Shows (planText table plan) (now (out .exit)) r ⌝ }
+// Prints the plan that words hold, and returns the length of its text.
+pub fn print(words: &[u64], out: &mut [u8]) -> usize
+    requires { ⌜ (length (now words) ≡ WORDS) × (length (now out) ≡ PRINTED-LIMIT) × Small (graphOf (now words)) (planOf (now words)) ⌝ }
+    ensures { λ r. ⌜ Shows (planText (graphOf (now (words .entry))) (planOf (now (words .entry)))) (now (out .exit)) r ⌝ }
 {
-    let active = lines::active_of(table);
-    let changes = plan.changes;
-    let at = modes(out, table, plan);
-    let end = lines::changes(out, at, active, changes);
+    let active = lines::active_of(words);
+    let at = modes(out, words);
+    let end = lines::changes(out, at, active, words);
     bytes::blank(out, end);
     end
 }

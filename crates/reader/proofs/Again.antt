@@ -11,9 +11,8 @@ use Rattle.terms.specs.declared.refusal.Place.the-variants.{Row as AtRow}
 use Rattle.tables.specs.declared.Table.{Table}
 use Rattle.tables.specs.Proper.{ProperTable}
 use Rattle.reader.specs.declared.Answer.the-variants.{Read, Refused}
-use Rattle.reader.specs.declared.Reading.{Reading}
 use Rattle.reader.specs.Rows.{Row, contents, FirstOf, by-3, by-4, by-5, NoneOf, RowRefused, Passes}
-use Rattle.reader.specs.Told.{Outcome, rows, refused, FirstRow, Refused1, FrontRefused, by-1, by-2, by-row, After, done, stopped, passed, Of, wrong-length, right-length, tableOf, readingOf, Told}
+use Rattle.reader.specs.Told.{Outcome, rows, refused, FirstRow, Refused1, FrontRefused, by-1, by-2, by-row, After, done, stopped, passed, Of, wrong-length, right-length, tableOf, Reading, readingOf, Told}
 use Rattle.reader.specs.Writing.{rowsOf, written}
 use Rattle.csv.proofs.Grammar.{first-one}
 use Rattle.reader.proofs.Lookup.{start}

@@ -81,7 +81,7 @@ module _ {rs : List Row} (p : Passed rs) where
         })
 
 -- each mode
-modes-proper : {rs : List Row} → Passed rs → (m : ℕ) → m < MODES → ProperMode (modeAt (tableOf rs) m)
+pub modes-proper : {rs : List Row} → Passed rs → (m : ℕ) → m < MODES → ProperMode (modeAt (tableOf rs) m)
 unfolding tableOf
 modes-proper start m h = rw (empty-mode m h) empty-proper
 modes-proper (then {r = actor r} {rs} i q p) m h =

@@ -1,15 +1,22 @@
--- Each public function's statement admits one answer only.
+-- Each public function's statement admits one answer only; that of `read` settles the memory that is left too.
 use mathlib.Core.Path.{_≡_, refl, sym, ap, ap₂, _∙_}
 use mathlib.Core.List.{List}
 use Prim.Native.Nat.{ℕ, _-_}
 use lib.ListN.{length}
+use contract.Lifetimes.{Lfts}
+use denote.Ref.{now}
+use denote.Triple.Clauses.{AtExit}
+use borrow.Fn.Kinds.{Dens, resT, endedOf}
 use Rattle.numbers.proofs.Settles.{Settles}
 use Rattle.tables.specs.declared.Actor.{Actor as Stage}
+use Rattle.tables.specs.Memory.{tableFronts, tableChannels}
+use Rattle.reader.specs.declared.Answer.{Answer}
 use Rattle.reader.specs.declared.line.Kind.{Kind}
 use Rattle.reader.specs.declared.line.Kind.the-variants.{Actor, Channel, NoRow, NoRecord}
 use Rattle.reader.specs.declared.line.Line.{Line}
 use Rattle.reader.specs.declared.rates.Rates.{Rates as RatesIn}
 use Rattle.reader.specs.Rows.{Row}
+use Rattle.reader.specs.Told.{Reading, ReadInto}
 use Rattle.reader.specs.Lines.{ratesIn, RatesOf, listed, none, lineOf, LineAt, no-record, no-row, row}
 use Rattle.reader.specs.Checks.{Number, refused, passes, CheckedOf}
 use Rattle.reader.proofs.Written.{same-list}
@@ -63,5 +70,12 @@ refusal-settled κs a x y s t p q =
     let l = a .1 .1 .1 .1 .1 .0 in
     checked-one (a .0) (a .1 .0) (a .1 .1 .0) (a .1 .1 .1 .0) (a .1 .1 .1 .1 .0) l (l .kind) x y p q
 
-read-settled : Settles 1 read-kinds.ps read-kinds.r read.Post
-read-settled κs a x y s t p q = told-one p q
+into-one : {text f c g d : List ℕ} {x y : Answer} → ReadInto text x f c → ReadInto text y g d → (x ≡ y) × (f ≡ g) × (c ≡ d)
+into-one p q =
+    let e = told-one (p .told) (q .told) in
+    let t : p .table ≡ q .table = ap (λ (r : Reading). r .table) e in
+    (ap (λ (r : Reading). r .answer) e, p .fronts-are ∙ ap tableFronts t ∙ sym (q .fronts-are), p .channels-are ∙ ap tableChannels t ∙ sym (q .channels-are))
+
+read-settled : (κs : Lfts 3) (a : Dens κs read-kinds.ps) (x y : resT read-kinds.r κs .Denot) (s t : AtExit (endedOf 3 read-kinds.ps read-kinds.r) κs)
+    → read.Post κs a x s → read.Post κs a y t → (x ≡ y) × (now (s .1 .0) ≡ now (t .1 .0)) × (now (s .1 .1 .0) ≡ now (t .1 .1 .0))
+read-settled κs a x y s t p q = into-one p q

@@ -1,5 +1,6 @@
 -- The refusals of a row, from what the rows before it leave for it.
 use mathlib.Core.Path.{_≡_}
+use mathlib.Core.List.{List}
 use mathlib.Core.Logic.{_⊎_}
 use Prim.Native.Nat.{ℕ, _≤_}
 use Rattle.numbers.specs.Bits.{Has}
@@ -7,6 +8,7 @@ use Rattle.numbers.specs.Every.{Every}
 use Rattle.units.specs.Limits.{CHANNELS}
 use Rattle.terms.specs.Refusal.{UNREADABLE, BAD-FIELD}
 use Rattle.tables.specs.declared.Actor.{Actor}
+use Rattle.tables.specs.Memory.{headIn, actorIn}
 use Rattle.reader.specs.declared.line.Kind.{Kind}
 use Rattle.reader.specs.declared.line.Kind.the-variants.{Actor as AnActor, Channel as AChannel, NoRow, NoRecord}
 use Rattle.reader.specs.declared.line.Line.{Line}
@@ -41,3 +43,7 @@ CheckedOf NoRecord active count home giver taker l n = n ≡ UNREADABLE
 
 abbrev pub Checked : (active count home : ℕ) → (giver taker : Actor) → Line → ℕ → Type 0
 Checked active count home giver taker l n = CheckedOf (l .kind) active count home giver taker l n
+
+-- of a row whose mode has this front
+abbrev pub CheckedBy : List ℕ → (home : ℕ) → Line → ℕ → Type 0
+CheckedBy f home l = Checked (headIn f .active) (headIn f .count) home (actorIn f (l .actor)) (actorIn f (l .to)) l

@@ -3,7 +3,7 @@ use mathlib.Core.Path.{_≡_}
 use mathlib.Core.List.{List, [], _∷_}
 use mathlib.Core.Logic.{_⊎_}
 use Prim.Native.Nat.{ℕ, suc, _≤_, _<_}
-use lib.ListN.{length}
+use lib.ListN.{length, replicate}
 use Rattle.numbers.specs.Padded.{padded}
 use Rattle.csv.specs.Grammar.{Cell, FirstRecord}
 use Rattle.units.specs.Limits.{MOST-BYTES, PHASES, FIELDS}
@@ -12,9 +12,10 @@ use Rattle.terms.specs.Refusal.{UNREADABLE, BAD-FIELD}
 use Rattle.terms.specs.declared.refusal.Place.the-variants.{Row as AtRow}
 use Rattle.tables.specs.declared.Channel.{Channel}
 use Rattle.tables.specs.declared.Table.{Table}
+use Rattle.tables.specs.Memory.{TABLE-WORDS, TABLE-BYTES, tableFronts, tableChannels}
 use Rattle.tables.specs.Shape.{modeAt, emptyTable, withActor, withChannel, withMode}
+use Rattle.reader.specs.declared.Answer.{Answer}
 use Rattle.reader.specs.declared.Answer.the-variants.{Read, Refused}
-use Rattle.reader.specs.declared.Reading.{Reading}
 use Rattle.reader.specs.Rows.{Row, ChannelRow, actor, channel, InRange, contents, RowRefused, Passes}
 
 -- the rows of a text, the latest first; or a refusal's number and row
@@ -72,6 +73,11 @@ unfoldable pub tableOf : List Row → Table
 tableOf [] = emptyTable
 tableOf (r ∷ rs) = listing r (tableOf rs)
 
+-- the answer, and the table beside it: with nothing in it where the text is refused
+pub record Reading : Type 0 where
+  pub answer : Answer
+  pub table : Table
+
 -- the reader's answer: read, with the table of the rows; or refused at a row, with an empty table
 abbrev pub readAs : Table → Reading
 readAs t = record { answer = Read; table = t }
@@ -87,3 +93,19 @@ RowsTold text r = (o : Outcome) × After [] text o × (r ≡ readingOf o)
 -- the reading of a text
 abbrev pub Told : List ℕ → Reading → Type 0
 Told text r = (o : Outcome) × Of text o × (r ≡ readingOf o)
+
+-- the memory of a table, all of it 0
+pub record Blank (fronts channels : List ℕ) : Type 0 where
+  pub no-fronts : fronts ≡ replicate TABLE-WORDS 0
+  pub no-channels : channels ≡ replicate TABLE-BYTES 0
+
+-- an answer, and in memory the table beside it, of which together this holds
+pub record Into (Is : Reading → Type 0) (answer : Answer) (fronts channels : List ℕ) : Type 0 where
+  pub table : Table
+  pub told : Is (record { answer = answer; table = table })
+  pub fronts-are : fronts ≡ tableFronts table
+  pub channels-are : channels ≡ tableChannels table
+
+-- the reading of a text, with its table in memory
+abbrev pub ReadInto : List ℕ → Answer → (fronts channels : List ℕ) → Type 0
+ReadInto text = Into (Told text)

@@ -1,16 +1,29 @@
-// The reader of tables: RFC 4180 text to modes, or the first refusal of 1 to 5.
+// The reader of tables: RFC 4180 text to modes in memory, or the first refusal of 1 to 5.
 ghost use mathlib.Core.Path.{_≡_};
-ghost use Rattle.reader.specs.Told.{RowsTold, Told, readAs, readingOf, refused as refusedAt};
+ghost use Prim.Native.Nat.{_<_};
+ghost use lib.ListN.{length};
+ghost use Rattle.units.specs.Limits.{ACTORS};
+ghost use Rattle.tables.specs.Memory.{FRONT-WORDS};
+ghost use Rattle.reader.specs.Checks.{CheckedBy};
+ghost use Rattle.reader.specs.Told.{Blank, Into, RowsTold, ReadInto, readingOf, refused as refusedAt};
 
 pub mod check;
 pub mod line;
 pub mod rates;
 
 use crate::check::refusal;
+use crate::line::Line;
 use crate::line::channel_of;
 use crate::line::line_at;
 use crate::line::lists_actor;
-use tables::Table;
+use tables::memory::CHANNELS_BYTES;
+use tables::memory::FRONT_WORDS;
+use tables::memory::actor_at;
+use tables::memory::clear;
+use tables::memory::clear_bytes;
+use tables::memory::head_of;
+use tables::memory::list_actor;
+use tables::memory::list_channel;
 use terms::refusal::Place;
 use terms::refusal::Refusal;
 use terms::refusal::UNREADABLE;
@@ -22,74 +35,62 @@ pub enum Answer {
     Refused(Refusal),
 }
 
-// The answer, and the table beside it: with nothing in it where the text is refused.
-pub struct Reading {
-    pub answer: Answer,
-    pub table: Table,
-}
-
-fn refused(number: u64, row: u64) -> Reading
-    ensures { λ r. ⌜ r ≡ readingOf (refusedAt number row) ⌝ }
+fn refused(number: u64, row: u64) -> Answer
+    ensures { λ r. ⌜ r ≡ readingOf (refusedAt number row) .answer ⌝ }
 {
     let place = Place::Row(row);
-    Reading {
-        answer: Answer::Refused(Refusal { number, place }),
-        table: tables::empty(),
-    }
+    Answer::Refused(Refusal { number, place })
 }
 
-fn done(table: Table) -> Reading
-    ensures { λ r. ⌜ r ≡ readAs table ⌝ }
+// The number of a row's refusal, or 0, after rows that leave its mode so in memory, and its actor on a processor (0 where none of them lists it).
+fn refusal_in(front: &[u64], home: usize, line: Line) -> u64
+    requires { ⌜ (length (now front) ≡ FRONT-WORDS) × (line .actor < ACTORS) × (line .to < ACTORS) ⌝ }
+    ensures { λ r. ⌜ CheckedBy (now (front .entry)) home line r ⌝ }
 {
-    let answer = Answer::Read;
-    Reading { answer, table }
+    let head = head_of(front);
+    let giver = actor_at(front, line.actor);
+    let taker = actor_at(front, line.to);
+    refusal(head.active, head.count, home, giver, taker, line)
 }
 
-// Reads the rows of a text. The mode of the latest row is kept beside the table, and put into it where a row of another mode comes.
-fn rows(text: &[u8]) -> Reading
-    ensures { λ r. ⌜ RowsTold (now (text .entry)) r ⌝ }
+// Reads the rows of a text into memory, which is cleared where one of them is refused.
+fn rows(text: &[u8], fronts: &mut [u64], channels: &mut [u8]) -> Answer
+    requires { ⌜ Blank (now fronts) (now channels) ⌝ }
+    ensures { λ r. ⌜ Into (RowsTold (now (text .entry))) r (now (fronts .exit)) (now (channels .exit)) ⌝ }
 {
-    let mut table = tables::empty();
     let mut homes = [0usize; ACTORS];
-    let mut m: usize = 0;
-    let mut mode = table.modes[0];
     let mut at: usize = 0;
     let mut row: u64 = 0;
     while at < text.len() {
         row += 1;
         let line = line_at(text, at);
         let a = line.actor;
-        let to = line.to;
-        if line.mode != m {
-            table.modes[m] = mode;
-            m = line.mode;
-            mode = table.modes[m];
-        }
-        let giver = mode.actors[a];
-        let taker = mode.actors[to];
-        let number = refusal(mode.active, mode.count, homes[a], giver, taker, line);
+        let f = FRONT_WORDS * line.mode;
+        let g = f + FRONT_WORDS;
+        let number = refusal_in(&fronts[f..g], homes[a], line);
         if number != 0 {
+            clear(fronts);
+            clear_bytes(channels);
             return refused(number, row);
         }
         if lists_actor(line) {
             let is = line.is;
-            mode.active = bits::with(mode.active, a);
-            mode.actors[a] = is;
+            list_actor(&mut fronts[f..g], a, is);
             homes[a] = is.processor;
         } else {
-            let count = mode.count;
-            mode.channels[count] = channel_of(line);
-            mode.count = count + 1;
+            let c = CHANNELS_BYTES * line.mode;
+            let d = c + CHANNELS_BYTES;
+            list_channel(&mut fronts[f..g], &mut channels[c..d], channel_of(line));
         }
         at = line.next;
     }
-    table.modes[m] = mode;
-    done(table)
+    Answer::Read
 }
 
-// Reads a text.
-pub fn read(text: &[u8]) -> Reading
-    ensures { λ r. ⌜ Told (now (text .entry)) r ⌝ }
+// Reads a text into memory that is all 0, and leaves it so where the text is refused.
+pub fn read(text: &[u8], fronts: &mut [u64], channels: &mut [u8]) -> Answer
+    requires { ⌜ Blank (now fronts) (now channels) ⌝ }
+    ensures { λ r. ⌜ ReadInto (now (text .entry)) r (now (fronts .exit)) (now (channels .exit)) ⌝ }
 {
     let length = text.len();
     if length == 0 {
@@ -98,5 +99,5 @@ pub fn read(text: &[u8]) -> Reading
     if MOST_BYTES < length {
         return refused(UNREADABLE, 0);
     }
-    rows(text)
+    rows(text, fronts, channels)
 }

@@ -10,11 +10,13 @@ use lib.ListN.{getD, set, replicate, length-set, length-replicate}
 use lib.Seq.{getD-set-same, getD-set-other}
 use Rattle.numbers.specs.Bits.{hasb, has-decides}
 use Rattle.numbers.specs.Decides.{decides-false}
+use Rattle.numbers.specs.Extreme.{GreatestIn, greatest-above}
 use Rattle.numbers.specs.Tab.{is-tab, getD-replicated}
 use Rattle.units.specs.Bounds.{MOST-WAIT}
 use Rattle.units.specs.Limits.{ACTORS, CHANNELS}
 use Rattle.units.specs.declared.Tick.{Tick}
 use Rattle.units.specs.Ticks.{tick, greaterTick}
+use Rattle.tables.specs.declared.Channel.{Channel}
 use Rattle.tables.specs.declared.Mode.{Mode}
 use Rattle.tables.specs.Shape.{channelAt}
 use Rattle.graph.specs.Judged.{ofActors}
@@ -120,10 +122,24 @@ module _ (m : Mode) (ps : List Tick) (ds : List ℕ) (ready : Ready m ps ds) whe
                 mul-le-mul-right (MOST-WAIT .0) (ready .deeper k h),
               ))
 
+    -- the channel as it is read
+    module _ (c : Channel) (is : c ≡ channelAt m k) where
+      pub read-aside : (getD ds (c .to) 0 ≡ d → ⊥) → Reached m ps ds d (k + 1) l
+      read-aside n = reached-aside (λ e. n (ap (λ (x : Channel). getD ds (x .to) 0) is ∙ e))
+
+      pub read-asked : (r v : Tick) → getD ds (c .to) 0 ≡ d → Asked m ps k (startAt l (channelAt m k .from)) r → v ≡ greaterTick (startAt l (c .to)) r
+          → Reached m ps ds d (k + 1) (set l (c .to) v)
+      read-asked r v at asked e = rw (e, is) (reached-asked (rw is at at) r asked)
+
   -- all channels to a depth
   pub reached-depth : (d k : ℕ) (l : List Tick) → m .count ≤ k → Reached m ps ds d k l → Reached m ps ds (d + 1) 0 l
   reached-depth d k l h r =
       record { long = r .long; fed = λ n b e. r .fed n b (omega (arith, e, b, h, few n b)); least = r .least; within = r .within }
+
+  -- and to all depths, where no actor is deeper
+  pub reached-all : (d last : ℕ) (l : List Tick) → GreatestIn ds last → last < d → Reached m ps ds d 0 l → Reached m ps ds ACTORS 0 l
+  reached-all d last l most h r =
+      record { long = r .long; fed = λ n b e. r .fed n b (omega (arith, h, greatest-above ds last most (channelAt m n .to), few n b)); least = r .least; within = r .within }
 
   module _ (l : List Tick) (r : Reached m ps ds ACTORS 0 l) where
     pub reached-starts : Starts m ps (startAt l)

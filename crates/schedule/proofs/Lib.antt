@@ -1,4 +1,5 @@
 -- What the proofs lean on, and the laws for the crates above.
+mod Lent
 pub mod Sound
 mod Finding
 mod Sizing

@@ -76,7 +76,7 @@ sizes-found m ps l fits =
 
 module _ (m : Mode) (j : Judgement) (proper : ProperMode m) (judged : Judged m j) (sound : j .verdict ≡ IsSound) where
   pub ready : Ready m (j .periods) (j .depths)
-  ready = let (x, n, p) = numbers-of judged sound in judged-ready m j proper x n p
+  ready = let (x, p) = numbers-of judged sound in judged-ready m j proper x p
 
   -- the answer for starts that are found
   answer-is : (l : List Tick) → Reached m (j .periods) (j .depths) ACTORS 0 l → Scheduled m j (answerOf m j l)

@@ -2,14 +2,12 @@
 use mathlib.Core.Path.{_≡_, refl, sym, ap, subst, _∙_}
 use mathlib.Core.Bool.{Bool, true, false, cond}
 use mathlib.Core.List.{List}
-use mathlib.Core.Logic.{⊎-elim}
 use Prim.Native.Nat.{ℕ, _*_, _≤_, _<_}
 use native.Mathlib.Nat.{le-of-dvd, lt-of-not-le}
 use native.Mathlib.Omega.{arith}
-use native.Mathlib.Decide.{decLt}
-use lib.ListN.{length, getD, take, List·getD-eq-default}
+use lib.ListN.{length, getD, take}
 use lib.Seq.{length-take-le, getD-take}
-use Rattle.numbers.specs.Bits.{bit, Has, hasb, has-decides, has-or-not}
+use Rattle.numbers.specs.Bits.{hasb, has-decides}
 use Rattle.numbers.specs.Decides.{decides-true, decides-false}
 use Rattle.numbers.specs.Sum.{sum, sum-one}
 use Rattle.numbers.specs.Tab.{length-tab, getD-tab, tab-at}
@@ -27,12 +25,11 @@ use Rattle.tables.specs.Proper.{ProperMode, ProperRates}
 use Rattle.graph.specs.declared.Verdict.{Verdict}
 use Rattle.graph.specs.declared.Verdict.the-variants.{Cyclic as IsCyclic, Ends as HasNoEnds, Unbalanced as IsUnbalanced, Overloaded as IsOverloaded, Sound as IsSound}
 use Rattle.graph.specs.declared.Judgement.{Judgement}
-use Rattle.graph.specs.Order.{Cyclic}
 use Rattle.graph.specs.Balance.{firingsOf}
 use Rattle.graph.specs.Judged.{ofActors, Numbers, Judged, cyclic, no-ends, unbalanced, overloaded, sound}
 use Rattle.graph.specs.Laws.{iteration-pos, period-whole, firings-divide}
 use Rattle.graph.specs.Lengths.{Few}
-use Rattle.graph.proofs.Sorted.{joins-deeper, depth-below}
+use Rattle.graph.proofs.Sorted.{joins-deeper, ranked-below}
 use Rattle.channel.specs.Flow.{Proper, Paced}
 use Rattle.schedule.specs.Starts.{producerOf, consumerOf}
 use Rattle.schedule.specs.Reached.{Ready}
@@ -45,12 +42,12 @@ Passes IsUnbalanced = ⊥
 Passes (IsOverloaded p) = ⊥
 Passes IsSound = Unit {0}
 
-pub numbers-of : {m : Mode} {j : Judgement} → Judged m j → j .verdict ≡ IsSound → (x : ℕ → ℕ) × (Cyclic m → ⊥) × Numbers m x j
+pub numbers-of : {m : Mode} {j : Judgement} → Judged m j → j .verdict ≡ IsSound → (x : ℕ → ℕ) × Numbers m x j
 numbers-of (cyclic c) e = absurd (subst Passes (sym e) tt)
 numbers-of (no-ends n d) e = absurd (subst Passes (sym e) tt)
 numbers-of (unbalanced n d u) e = absurd (subst Passes (sym e) tt)
 numbers-of (overloaded x n d s i w o) e = absurd (subst Passes (sym e) tt)
-numbers-of (sound x n p f) e = (x, n, p)
+numbers-of (sound x n p f) e = (x, p)
 
 -- what stands at an actor's place
 pub at-actor : {A : Type 0} (m : Mode) (f : ℕ → A) (z : A) (i : ℕ) → Active m i → getD (ofActors m f z) i z ≡ f i
@@ -69,7 +66,7 @@ moving phases rates h p =
     let is : rateOf (take phases rates) k ≡ getD rates k 0 = rate-in (take phases rates) k (omega (arith, long)) ∙ getD-take phases rates k 0 below in
     omega (arith, some, is, sum-one (rateOf (take phases rates)) k phases below)
 
-module _ (m : Mode) (j : Judgement) (proper : ProperMode m) (x : ℕ → ℕ) (acyclic : Cyclic m → ⊥) (n : Numbers m x j) where
+module _ (m : Mode) (j : Judgement) (proper : ProperMode m) (x : ℕ → ℕ) (n : Numbers m x j) where
   -- a cycle, so many times, is an iteration
   whole : (i : ℕ) → Active m i → j .iteration ≡ timesTicks (x i) (timesTicks (actorAt m i .phases) (getD (j .periods) i (tick 0)))
   whole i a =
@@ -109,22 +106,13 @@ module _ (m : Mode) (j : Judgement) (proper : ProperMode m) (x : ℕ → ℕ) (a
         within = n .within;
       }
 
-  depth-small : (i : ℕ) → getD (j .depths) i 0 < ACTORS
-  depth-small i = go (decLt i ACTORS)
-    where
-      go : Dec (i < ACTORS) → getD (j .depths) i 0 < ACTORS
-      go (no l) = omega (arith, List·getD-eq-default (j .depths) 0 {n = i} (omega (arith, l, n .ranked .long)))
-      go (yes l) =
-          ⊎-elim (λ (y : Has (m .active) i). depth-below m proper i (getD (j .depths) i 0) (l, y) (n .ranked .depth i (l, y)) acyclic)
-          (λ (z : bit (m .active) i ≡ 0). omega (arith, n .ranked .no-depth i l (λ a. omega (arith, a .1)))) (has-or-not (m .active) i)
-
   pub judged-ready : Ready m (j .periods) (j .depths)
   judged-ready =
       record {
         proper = proper;
         periods-long = ap length (n .periods) ∙ length-tab ACTORS _;
         depths-long = n .ranked .long;
-        below = depth-small;
+        below = ranked-below m proper (j .depths) (n .ranked);
         idle = n .ranked .no-depth;
         deeper = λ k h.
             let c = proper .channel k h in

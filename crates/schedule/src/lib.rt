@@ -4,13 +4,13 @@ mod sizes;
 mod starts;
 
 use graph::Judgement;
-use tables::Mode;
+use tables::memory::head_of;
 use units::Tick;
 use units::Token;
 use units::limits::ACTORS;
 use units::limits::CHANNELS;
 ghost use mathlib.Core.Path.{_≡_};
-ghost use Rattle.tables.specs.Proper.{ProperMode};
+ghost use Rattle.tables.specs.Memory.{modeIn, Stands};
 ghost use Rattle.graph.specs.declared.Verdict.the-variants.{Sound};
 ghost use Rattle.graph.specs.Judged.{Judged};
 ghost use Rattle.schedule.specs.Nothing.{lateBy};
@@ -45,24 +45,25 @@ fn refused(actor: usize) -> Timetable
 }
 
 // Schedules a mode whose judgement is sound.
-pub fn schedule(mode: Mode, judged: Judgement) -> Timetable
-    requires { ⌜ ProperMode mode × Judged mode judged × (judged .verdict ≡ Sound) ⌝ }
-    ensures { λ r. ⌜ Scheduled mode judged r ⌝ }
+pub fn schedule(front: &[u64], channels: &[u8], judged: Judgement) -> Timetable
+    requires { ⌜ Stands (now front) (now channels) × Judged (modeIn (now front) (now channels)) judged × (judged .verdict ≡ Sound) ⌝ }
+    ensures { λ r. ⌜ Scheduled (modeIn (now (front .entry)) (now (channels .entry))) judged r ⌝ }
 {
+    let head = head_of(front);
     let periods = judged.periods;
     let depths = judged.depths;
     let firings = judged.firings;
     let sink = judged.sink;
-    let starts = starts::starts_of(mode, periods, depths);
+    let starts = starts::starts_of(front, channels, periods, depths);
     let startup = starts[sink];
-    if let Timing::Late(actor) = starts::late(starts, mode.active, startup) {
+    if let Timing::Late(actor) = starts::late(starts, head.active, startup) {
         return refused(actor);
     }
     Timetable {
         timing: Timing::OnTime,
         startup,
         starts,
-        sizes: sizes::sizes_of(mode, periods, starts),
-        tokens: sizes::tokens_of(mode, firings),
+        sizes: sizes::sizes_of(front, channels, periods, starts),
+        tokens: sizes::tokens_of(front, channels, firings),
     }
 }

@@ -2,27 +2,28 @@
 use mathlib.Core.Path.{_≡_, refl, sym, ap, ap₂, _∙_}
 use mathlib.Core.List.{List, [], _∷_, _++_}
 use Prim.Native.Nat.{ℕ, zero, suc, _+_, _*_, _-_, _%_, _^_, _≤_, _<_}
-use native.Mathlib.Decide.{decLt}
+use native.Mathlib.Decide.{decLt, ℕ-discrete}
 use native.Mathlib.Nat.{mod-eq-of-lt, not-suc-le-zero, mul-zero, mul-suc}
 use native.Mathlib.Omega.{arith}
 use borrow.Rule.Slice.PartMut.{putMid}
 use lib.ListN.{length, getD, set, take, drop, length-append, length-take, length-drop, take-append-drop, List·getD-append, length-set, replicate, length-replicate, getD-replicate, replicate-append-replicate}
-use lib.Seq.{ext-getD, take-all, getD-append-add, getD-take, getD-drop, drop-drop, drop-set-lt, drop-cons, take-add}
+use lib.Seq.{getD-set-same, getD-set-other, ext-getD, take-all, getD-append-add, getD-take, getD-drop, drop-drop, drop-set-lt, drop-cons, take-add}
 use Rattle.numbers.specs.Bits.{adding}
-use Rattle.numbers.specs.Joined.{joined, part, getD-part, joined-same, length-joined, getD-joined}
-use Rattle.numbers.specs.Tab.{tab, length-tab, getD-tab, is-tab, tab-same, filled-more, getD-replicated, placing, placing-there, placing-aside}
-use Rattle.numbers.proofs.Laid.{parts-joined, put-second, joined-put}
+use Rattle.numbers.specs.Joined.{joined, part, getD-part, joined-same, joined-part, length-joined, getD-joined}
+use Rattle.numbers.specs.Tab.{tab, stretchOf, length-tab, getD-tab, is-tab, tab-same, filled-more, getD-replicated, placing, placing-there, placing-aside}
+use Rattle.numbers.proofs.Laid.{part-is, parts-joined, put-second, joined-put, stretch-is}
 use Rattle.units.specs.Firings.{firing}
 use Rattle.units.specs.Ticks.{tick}
 use Rattle.units.specs.Limits.{MODES, ACTORS, CHANNELS, PHASES}
 use Rattle.tables.specs.declared.Actor.{Actor}
 use Rattle.tables.specs.declared.Channel.{Channel}
 use Rattle.tables.specs.declared.Mode.{Mode}
+use Rattle.tables.specs.declared.Table.{Table}
 use Rattle.tables.specs.declared.memory.Head.{Head}
 use Rattle.tables.specs.declared.memory.Times.{Times}
-use Rattle.tables.specs.Shape.{noActor, noChannel, noMode, emptyMode, emptyTable, actorAt, channelAt}
-use Rattle.tables.specs.Proper.{ProperMode}
-use Rattle.tables.specs.Memory.{HEAD-WORDS, ACTOR-WORDS, FRONT-WORDS, CHANNEL-BYTES, CHANNELS-BYTES, TABLE-WORDS, TABLE-BYTES, actorsAt, channelsAt, headWords, actorWords, frontWords, rateWords, channelBytes, channelsBytes, headIn, actorIn, timesIn, timesOf, channelIn, modeIn, frontOf, channelsOf, tableFronts, tableChannels, withActive}
+use Rattle.tables.specs.Shape.{noActor, noChannel, noMode, emptyMode, emptyTable, actorAt, channelAt, modeAt, withActor, withChannel, withMode}
+use Rattle.tables.specs.Proper.{ProperMode, ProperTable}
+use Rattle.tables.specs.Memory.{HEAD-WORDS, ACTOR-WORDS, FRONT-WORDS, CHANNEL-BYTES, CHANNELS-BYTES, TABLE-WORDS, TABLE-BYTES, actorsAt, channelsAt, headWords, actorWords, frontWords, rateWords, channelBytes, channelsBytes, headIn, actorIn, timesIn, timesOf, channelIn, modeIn, noTimes, headOf, frontOf, channelsOf, tableFronts, tableChannels, tableIn, withActive}
 
 pub length-front : (h : Head) (actor : ℕ → Actor) (times : ℕ → Times) → length (frontWords h actor times) ≡ FRONT-WORDS
 length-front h actor times =
@@ -108,13 +109,17 @@ channel-stored l c long made taken =
     ap (λ (x : List ℕ). set (set (putMid (2 + PHASES) PHASES (putMid 2 PHASES x (c .production)) (c .consumption)) 0 (c .from)) 1 (c .to)) w
     ∙ ap₂ (λ (x y : List ℕ). set (set (putMid (2 + PHASES) PHASES (putMid 2 PHASES (rawChannel l) x) y) 0 (c .from)) 1 (c .to)) p q
 
+-- channel k stands in its stretch of the bytes
+pub channel-stretch : (l : List ℕ) (k : ℕ) → stretchOf (channelsAt k) CHANNEL-BYTES l ≡ channelBytes (channelIn l k)
+unfolding tab
+channel-stretch l k = let z : channelsAt k + 0 ≡ channelsAt k = omega arith in rw z
+
 module _ (l : List ℕ) (long : length l ≡ CHANNELS-BYTES) where
   channel-bytes : (k : ℕ) → k < CHANNELS → part CHANNEL-BYTES k l ≡ channelBytes (channelIn l k)
-  unfolding tab
   channel-bytes k h =
       is-tab CHANNEL-BYTES (λ j. getD l (channelsAt k + j) 0) (part CHANNEL-BYTES k l) 0
       (length-take CHANNEL-BYTES (drop (channelsAt k) l) ∙ simp length-drop (omega arith)) (λ j b. getD-part CHANNEL-BYTES k j l 0 b)
-      ∙ let z : channelsAt k + 0 ≡ channelsAt k = omega arith in rw z
+      ∙ channel-stretch l k
 
   -- with another channel at place k
   pub channels-listed : (k : ℕ) (c : Channel) (b : List ℕ) → k < CHANNELS → b ≡ channelBytes c
@@ -129,21 +134,15 @@ module _ (l : List ℕ) (long : length l ≡ CHANNELS-BYTES) where
       ∙ joined-put CHANNEL-BYTES CHANNELS k (λ j. channelBytes (channelIn l j)) (λ j. channelBytes (placing k c (channelIn l) j)) (λ j. refl) h
       (λ j g n. ap channelBytes (sym (placing-aside k j c (channelIn l) n)))
 
--- rates that are read from bytes
-rates-read : (l rates : List ℕ) (a e : ℕ) → e ≡ a + PHASES → e ≤ length l → rates ≡ take (e - a) (drop a l) → rates ≡ tab PHASES (λ j. getD l (a + j) 0)
-rates-read l rates a e w h r =
-    let wide : e - a ≡ PHASES = omega arith in
-    r ∙ ap (λ (n : ℕ). take n (drop a l)) wide
-    ∙ is-tab PHASES (λ j. getD l (a + j) 0) (take PHASES (drop a l)) 0 (length-take PHASES (drop a l) ∙ simp length-drop (omega arith)) (λ j b. getD-take PHASES (drop a l) j 0 b ∙ getD-drop a l j 0)
-
+-- a channel whose rates are read from its bytes
 pub channel-read : (l : List ℕ) (k : ℕ) (made taken : List ℕ) → length l ≡ CHANNELS-BYTES → k < CHANNELS
     → made ≡ take (channelsAt k + 2 + PHASES - (channelsAt k + 2)) (drop (channelsAt k + 2) l)
     → taken ≡ take (channelsAt k + 2 + PHASES + PHASES - (channelsAt k + 2 + PHASES)) (drop (channelsAt k + 2 + PHASES) l)
     → _≡_ {A = Channel} (record { from = getD l (channelsAt k) 0; to = getD l (channelsAt k + 1) 0; production = made; consumption = taken }) (channelIn l k)
 channel-read l k made taken long h p q =
     ap₂ (λ (x y : List ℕ). record { from = getD l (channelsAt k) 0; to = getD l (channelsAt k + 1) 0; production = x; consumption = y })
-    (rates-read l made (channelsAt k + 2) (channelsAt k + 2 + PHASES) refl (omega arith) p ∙ tab-same PHASES _ _ (λ j b. ap (λ (n : ℕ). getD l n 0) (omega arith)))
-    (rates-read l taken (channelsAt k + 2 + PHASES) (channelsAt k + 2 + PHASES + PHASES) refl (omega arith) q ∙ tab-same PHASES _ _ (λ j b. ap (λ (n : ℕ). getD l n 0) (omega arith)))
+    (p ∙ stretch-is (channelsAt k + 2) (channelsAt k + 2 + PHASES) PHASES l refl (omega arith) ∙ tab-same PHASES _ _ (λ j b. ap (λ (n : ℕ). getD l n 0) (omega arith)))
+    (q ∙ stretch-is (channelsAt k + 2 + PHASES) (channelsAt k + 2 + PHASES + PHASES) PHASES l refl (omega arith) ∙ tab-same PHASES _ _ (λ j b. ap (λ (n : ℕ). getD l n 0) (omega arith)))
 
 -- what is put into a front is found there
 module _ (h : Head) (actor : ℕ → Actor) (times : ℕ → Times) where
@@ -251,7 +250,7 @@ cleared-all l m k h c =
 abbrev zeros : ℕ → List ℕ
 zeros n = replicate n 0
 
-zeros-joined : (k n : ℕ) → joined n (λ i. zeros k) ≡ zeros (k * n)
+pub zeros-joined : (k n : ℕ) → joined n (λ i. zeros k) ≡ zeros (k * n)
 unfolding joined
 zeros-joined k zero = ap zeros (sym (mul-zero k))
 zeros-joined k (suc n) = ap (λ (l : List ℕ). l ++ zeros k) (zeros-joined k n) ∙ replicate-append-replicate (k * n) k 0 ∙ ap zeros (sym (mul-suc k n))
@@ -275,3 +274,67 @@ empty-bytes = joined-same MODES _ _ (λ m h. ap channelsOf (getD-replicate MODES
 pub length-channels : (m : Mode) → length (channelsOf m) ≡ CHANNELS-BYTES
 unfolding tab
 length-channels m = length-joined CHANNEL-BYTES (λ k. channelBytes (channelAt m k)) (λ k. refl) CHANNELS
+
+-- a list with another element at a place, by its elements
+module _ {A B : Type 0} (f : A → B) (l : List A) (i : ℕ) (v d : A) (h : i < length l) where
+  placed : (g : ℕ → A) (j : ℕ) → f (g j) ≡ f (getD l j d) → f (placing i v g j) ≡ f (getD (set l i v) j d)
+  placed g j e = go (ℕ-discrete j i)
+    where
+      go : Dec (j ≡ i) → f (placing i v g j) ≡ f (getD (set l i v) j d)
+      go (yes q) = rw q (ap f (placing-there i v g ∙ sym (getD-set-same l i v d h)))
+      go (no n) = ap f (placing-aside i j v g n) ∙ e ∙ ap f (sym (getD-set-other l i j v d n))
+
+-- the memory of a mode with an actor or a channel more
+module _ (M : Mode) (proper : ProperMode M) where
+  pub front-with-actor : (i : ℕ) (a : Actor) → i < ACTORS
+      → frontWords (withActive (headIn (frontOf M)) i) (placing i a (actorIn (frontOf M))) (timesIn (frontOf M)) ≡ frontOf (withActor M i a)
+  front-with-actor i a h =
+      let f = frontOf M in
+      ap₂ (λ (x : Head) (l : List ℕ). headWords (withActive x i) ++ l) (front-head (headOf M) (actorAt M) (λ j. noTimes) (proper .active))
+      (joined-same ACTORS (λ j. actorWords (placing i a (actorIn f) j) (timesIn f j)) (λ j. actorWords (actorAt (withActor M i a) j) noTimes)
+      (λ j l. ap (actorWords (placing i a (actorIn f) j)) (front-times (headOf M) (actorAt M) (λ j. noTimes) j l)
+      ∙ placed (λ (b : Actor). actorWords b noTimes) (M .actors) i a noActor (omega (arith, proper .actors-long)) (actorIn f) j
+      (ap (λ (b : Actor). actorWords b noTimes) (front-actor (headOf M) (actorAt M) (λ j. noTimes) j l))))
+
+  pub channels-with-channel : (c : Channel) → M .count < CHANNELS → channelsBytes (placing (M .count) c (channelIn (channelsOf M))) ≡ channelsOf (withChannel M c)
+  unfolding tab
+  channels-with-channel c h =
+      let l = channelsOf M in
+      joined-same CHANNELS (λ j. channelBytes (placing (M .count) c (channelIn l) j)) (λ j. channelBytes (channelAt (withChannel M c) j))
+      (λ j b. placed channelBytes (M .channels) (M .count) c noChannel (omega (arith, proper .channels-long)) (channelIn l) j
+      (sym (channel-bytes l (length-channels M) j b) ∙ joined-part CHANNEL-BYTES (λ k. channelBytes (channelAt M k)) (λ k. refl) CHANNELS j b))
+
+-- the memory of a table, in which each mode has k numbers: what stands of a mode there, and the table with another mode in its place
+module _ (k : ℕ) (f : Mode → List ℕ) (each : (M : Mode) → length (f M) ≡ k) (t : Table) (m : ℕ) (h : m < MODES) where
+  pub memory-part : take (k * m + k - k * m) (drop (k * m) (joined MODES (λ j. f (modeAt t j)))) ≡ f (modeAt t m)
+  memory-part = part-is k m (joined MODES (λ j. f (modeAt t j))) ∙ joined-part k (λ j. f (modeAt t j)) (λ j. each (modeAt t j)) MODES m h
+
+  module _ (long : length (t .modes) ≡ MODES) (M : Mode) where
+    there : modeAt (withMode t m M) m ≡ M
+    there = getD-set-same (t .modes) m M noMode (omega arith)
+
+    pub memory-put : (b : List ℕ) → b ≡ f M → putMid (k * m) (k * m + k - k * m) (joined MODES (λ j. f (modeAt t j))) b ≡ joined MODES (λ j. f (modeAt (withMode t m M) j))
+    memory-put b e =
+        let wide : k * m + k - k * m ≡ k = omega arith in
+        ap₂ (λ (w : ℕ) (x : List ℕ). putMid (k * m) w (joined MODES (λ j. f (modeAt t j))) x) wide (e ∙ ap f (sym there))
+        ∙ joined-put k MODES m (λ j. f (modeAt t j)) (λ j. f (modeAt (withMode t m M) j)) (λ j. each (modeAt t j)) h
+        (λ j l n. ap f (sym (getD-set-other (t .modes) m j M noMode n)))
+
+    pub memory-same : f (modeAt t m) ≡ f M → joined MODES (λ j. f (modeAt t j)) ≡ joined MODES (λ j. f (modeAt (withMode t m M) j))
+    memory-same e = joined-same MODES (λ j. f (modeAt t j)) (λ j. f (modeAt (withMode t m M) j)) (λ j l. go j (ℕ-discrete j m))
+      where
+        go : (j : ℕ) → Dec (j ≡ m) → f (modeAt t j) ≡ f (modeAt (withMode t m M) j)
+        go j (yes q) = rw q (e ∙ ap f (sym there))
+        go j (no n) = ap f (sym (getD-set-other (t .modes) m j M noMode n))
+
+-- a proper table is found in its memory
+pub table-in : (t : Table) → ProperTable t → tableIn (tableFronts t) (tableChannels t) ≡ t
+table-in t proper =
+    ap (λ (l : List Mode). let r : Table = record { modes = l } in r)
+    (sym (is-tab MODES _ (t .modes) noMode (proper .modes-long)
+    (λ m l.
+    let M = modeAt t m in
+    sym (ap₂ modeIn
+    (joined-part FRONT-WORDS (λ m. frontOf (modeAt t m)) (λ m. length-front (headOf (modeAt t m)) (actorAt (modeAt t m)) (λ i. noTimes)) MODES m l)
+    (joined-part CHANNELS-BYTES (λ m. channelsOf (modeAt t m)) (λ m. length-channels (modeAt t m)) MODES m l)
+    ∙ mode-in M (proper .mode m l) (headOf M) refl refl (λ i. noTimes)))))

@@ -32,26 +32,21 @@ use Rattle.tables.proofs.memory.clear_bytes.Kinds as clear-bytes-kinds
 use Rattle.tables.proofs.memory.clear_bytes.Reads as clear-bytes
 use Rattle.tables.proofs.proper.proper_mode.Kinds as proper-mode-kinds
 use Rattle.tables.proofs.proper.proper_mode.Reads as proper-mode
-use Rattle.tables.proofs.proper.proper.Kinds as proper-kinds
-use Rattle.tables.proofs.proper.proper.Reads as proper
 
 empty-settled : Settles 0 empty-kinds.ps empty-kinds.r empty.Post
 empty-settled κs a x y s t p q = p ∙ sym q
 
-at-home-settled : Settles 0 at-home-kinds.ps at-home-kinds.r at-home.Post
+at-home-settled : Settles 1 at-home-kinds.ps at-home-kinds.r at-home.Post
 at-home-settled κs a x y s t p q = decides-unique x y p q
 
-housed-settled : Settles 0 housed-kinds.ps housed-kinds.r housed.Post
+housed-settled : Settles 1 housed-kinds.ps housed-kinds.r housed.Post
 housed-settled κs a x y s t p q = p ∙ sym q
 
 inhabited-settled : Settles 0 inhabited-kinds.ps inhabited-kinds.r inhabited.Post
 inhabited-settled κs a x y s t p q = decides-unique x y p q
 
-proper-mode-settled : Settles 0 proper-mode-kinds.ps proper-mode-kinds.r proper-mode.Post
+proper-mode-settled : Settles 2 proper-mode-kinds.ps proper-mode-kinds.r proper-mode.Post
 proper-mode-settled κs a x y s t p q = decides-unique x y p q
-
-proper-settled : Settles 0 proper-kinds.ps proper-kinds.r proper.Post
-proper-settled κs a x y s t p q = decides-unique x y p q
 
 head-of-settled : Settles 1 head-of-kinds.ps head-of-kinds.r head-of.Post
 head-of-settled κs a x y s t p q = p ∙ sym q

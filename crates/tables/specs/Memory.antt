@@ -4,7 +4,7 @@ use mathlib.Core.List.{List, [], _∷_, _++_}
 use Prim.Native.Nat.{ℕ, _+_, _*_, _%_, _^_}
 use lib.ListN.{length, getD}
 use Rattle.numbers.specs.Bits.{adding}
-use Rattle.numbers.specs.Joined.{joined}
+use Rattle.numbers.specs.Joined.{joined, part}
 use Rattle.numbers.specs.Tab.{tab}
 use Rattle.units.specs.Limits.{MODES, ACTORS, CHANNELS, PHASES}
 use Rattle.units.specs.Firings.{firing}
@@ -77,7 +77,10 @@ actorIn f i = record { phases = getD f (actorsAt i) 0; wcet = tick (getD f (acto
 abbrev pub timesIn : List ℕ → ℕ → Times
 timesIn f i = record { firings = firing (getD f (actorsAt i + 3) 0); period = tick (getD f (actorsAt i + 4) 0); start = tick (getD f (actorsAt i + 5) 0) }
 
--- what is planned of an actor, by its own words
+-- an actor, and what is planned of it, by its own words
+abbrev pub actorOf : List ℕ → Actor
+actorOf l = record { phases = getD l 0 0; wcet = tick (getD l 1 0); processor = getD l 2 0 }
+
 abbrev pub timesOf : List ℕ → Times
 timesOf l = record { firings = firing (getD l 3 0); period = tick (getD l 4 0); start = tick (getD l 5 0) }
 
@@ -127,3 +130,7 @@ tableFronts t = joined MODES (λ m. frontOf (modeAt t m))
 
 abbrev pub tableChannels : Table → List ℕ
 tableChannels t = joined MODES (λ m. channelsOf (modeAt t m))
+
+-- the table that fronts and channels hold, mode by mode
+abbrev pub tableIn : List ℕ → List ℕ → Table
+tableIn fronts channels = record { modes = tab MODES (λ m. modeIn (part FRONT-WORDS m fronts) (part CHANNELS-BYTES m channels)) }

@@ -1,6 +1,7 @@
 // The actors of a mode.
 use crate::Actor;
-use crate::Mode;
+use crate::memory::actor_at;
+use crate::memory::head_of;
 use bits::has;
 use units::Tick;
 use units::limits::ACTORS;
@@ -8,12 +9,15 @@ use units::limits::MOST_WCET;
 use units::limits::PHASES;
 use units::limits::PROCESSORS;
 ghost use mathlib.Core.Path.{_≡_};
+ghost use mathlib.Core.List.{[]};
 ghost use Prim.Native.Nat.{_≤_};
+ghost use lib.ListN.{length};
 ghost use Rattle.numbers.specs.All.{Below};
 ghost use Rattle.numbers.specs.Decides.{Decides};
 ghost use Rattle.units.specs.Limits.{ACTORS};
 ghost use Rattle.tables.specs.Proper.{ProperActor};
 ghost use Rattle.tables.specs.Shape.{noActor};
+ghost use Rattle.tables.specs.Memory.{FRONT-WORDS, modeIn};
 ghost use Rattle.tables.specs.Parts.{ActorStands};
 
 // Whether a number counts from 1 to at most so many.
@@ -41,12 +45,14 @@ fn nobody(actor: Actor) -> bool
 }
 
 // Whether the active actors are proper, and nobody stands elsewhere.
-pub(crate) fn proper_actors(mode: Mode) -> bool
-    ensures { λ r. ⌜ Decides (Below (ActorStands mode) ACTORS) r ⌝ }
+pub(crate) fn proper_actors(front: &[u64]) -> bool
+    requires { ⌜ length (now front) ≡ FRONT-WORDS ⌝ }
+    ensures { λ r. ⌜ Decides (Below (ActorStands (modeIn (now (front .entry)) [])) ACTORS) r ⌝ }
 {
+    let head = head_of(front);
     for i in 0..ACTORS {
-        let actor = mode.actors[i];
-        if has(mode.active, i) {
+        let actor = actor_at(front, i);
+        if has(head.active, i) {
             if !proper_actor(actor) {
                 return false;
             }

@@ -1,6 +1,8 @@
 // The channels of a mode.
 use crate::Channel;
-use crate::Mode;
+use crate::memory::actor_at;
+use crate::memory::channel_at;
+use crate::memory::head_of;
 use bits::has;
 use units::limits::CHANNELS;
 use units::limits::PHASES;
@@ -12,6 +14,7 @@ ghost use Rattle.numbers.specs.Decides.{Decides};
 ghost use Rattle.units.specs.Limits.{CHANNELS, PHASES};
 ghost use Rattle.tables.specs.Proper.{ProperRates};
 ghost use Rattle.tables.specs.Shape.{emptyChannel};
+ghost use Rattle.tables.specs.Memory.{FRONT-WORDS, CHANNELS-BYTES, headIn, modeIn};
 ghost use Rattle.tables.specs.Parts.{Bytes, ChannelStands, ChannelLeft};
 
 // Whether the rates of an actor with so many phases are proper.
@@ -62,22 +65,23 @@ fn unused(channel: Channel) -> bool
 }
 
 // Whether the channels that are listed are proper.
-pub(crate) fn listed(mode: Mode) -> bool
-    requires { ⌜ mode .count ≤ CHANNELS ⌝ }
-    ensures { λ r. ⌜ Decides (Below (ChannelStands mode) (mode .count)) r ⌝ }
+pub(crate) fn listed(front: &[u64], channels: &[u8]) -> bool
+    requires { ⌜ (length (now front) ≡ FRONT-WORDS) × (length (now channels) ≡ CHANNELS-BYTES) × (headIn (now front) .count ≤ CHANNELS) ⌝ }
+    ensures { λ r. ⌜ Decides (Below (ChannelStands (modeIn (now (front .entry)) (now (channels .entry)))) (headIn (now (front .entry)) .count)) r ⌝ }
 {
-    for k in 0..mode.count {
-        let channel = mode.channels[k];
+    let head = head_of(front);
+    for k in 0..head.count {
+        let channel = channel_at(channels, k);
         let from = channel.from;
         let to = channel.to;
-        if !has(mode.active, from) {
+        if !has(head.active, from) {
             return false;
         }
-        if !has(mode.active, to) {
+        if !has(head.active, to) {
             return false;
         }
-        let producer = mode.actors[from];
-        let consumer = mode.actors[to];
+        let producer = actor_at(front, from);
+        let consumer = actor_at(front, to);
         if !rated(channel, producer.phases, consumer.phases) {
             return false;
         }
@@ -86,12 +90,13 @@ pub(crate) fn listed(mode: Mode) -> bool
 }
 
 // Whether the places behind them are empty.
-pub(crate) fn unlisted(mode: Mode) -> bool
-    requires { ⌜ mode .count ≤ CHANNELS ⌝ }
-    ensures { λ r. ⌜ Decides (Below (ChannelLeft mode) CHANNELS) r ⌝ }
+pub(crate) fn unlisted(front: &[u64], channels: &[u8]) -> bool
+    requires { ⌜ (length (now front) ≡ FRONT-WORDS) × (length (now channels) ≡ CHANNELS-BYTES) × (headIn (now front) .count ≤ CHANNELS) ⌝ }
+    ensures { λ r. ⌜ Decides (Below (ChannelLeft (modeIn (now (front .entry)) (now (channels .entry)))) CHANNELS) r ⌝ }
 {
-    for k in mode.count..CHANNELS {
-        let channel = mode.channels[k];
+    let head = head_of(front);
+    for k in head.count..CHANNELS {
+        let channel = channel_at(channels, k);
         if !unused(channel) {
             return false;
         }

@@ -1,41 +1,23 @@
-// Whether a table in memory is one that the rows of a table can give.
-use crate::Mode;
-use crate::Table;
-use units::limits::ACTORS;
+// Whether a mode in memory is one that the rows of a table can give.
+use crate::memory::head_of;
 use units::limits::CHANNELS;
-use units::limits::MODES;
+ghost use mathlib.Core.Path.{_≡_};
+ghost use lib.ListN.{length};
 ghost use Rattle.numbers.specs.Decides.{Decides};
-ghost use Rattle.tables.specs.Proper.{ProperMode, ProperTable};
+ghost use Rattle.tables.specs.Proper.{ProperMode};
+ghost use Rattle.tables.specs.Memory.{FRONT-WORDS, CHANNELS-BYTES, modeIn};
 
 // Whether the mode is proper.
-pub fn proper_mode(mode: Mode) -> bool
-    ensures { λ r. ⌜ Decides (ProperMode mode) r ⌝ }
+pub fn proper_mode(front: &[u64], channels: &[u8]) -> bool
+    requires { ⌜ (length (now front) ≡ FRONT-WORDS) × (length (now channels) ≡ CHANNELS-BYTES) ⌝ }
+    ensures { λ r. ⌜ Decides (ProperMode (modeIn (now (front .entry)) (now (channels .entry)))) r ⌝ }
 {
-    if CHANNELS < mode.count {
+    let head = head_of(front);
+    if CHANNELS < head.count {
         return false;
     }
-    if !crate::actors::proper_actors(mode) {
+    if !crate::actors::proper_actors(front) {
         return false;
     }
-    crate::channels::listed(mode) & crate::channels::unlisted(mode)
-}
-
-// Whether the table is proper: it goes through the modes, and keeps the processor of each actor that it has come to.
-pub fn proper(table: Table) -> bool
-    ensures { λ r. ⌜ Decides (ProperTable table) r ⌝ }
-{
-    let mut homes = [0usize; ACTORS];
-    for m in 0..MODES {
-        let mode = table.modes[m];
-        if !proper_mode(mode) {
-            return false;
-        }
-        let actors = mode.actors;
-        if !crate::homes::at_home(homes, actors) {
-            return false;
-        }
-        let next = crate::homes::housed(homes, actors);
-        homes = next;
-    }
-    crate::homes::inhabited(homes)
+    crate::channels::listed(front, channels) & crate::channels::unlisted(front, channels)
 }

@@ -1,10 +1,12 @@
 -- graph::judge meets its contract. Assumes nothing.
 use borrow.Author.Needs.{needs}
-use mathlib.Core.Path.{_≡_, sym, ap, subst, _∙_}
-use mathlib.Core.List.{List}
-use Prim.Native.Nat.{ℕ}
+use mathlib.Core.Path.{_≡_, sym, ap, ap₂, subst, subst₂, _∙_}
 use Rattle.numbers.specs.Bits.{size}
 use Rattle.units.specs.Limits.{ACTORS}
+use Rattle.tables.specs.declared.Mode.{Mode}
+use Rattle.tables.specs.declared.memory.Head.{Head}
+use Rattle.tables.specs.Proper.{ProperMode}
+use Rattle.tables.specs.Memory.{modeIn}
 use Rattle.graph.specs.declared.order.Order.{Order}
 use Rattle.graph.specs.Order.{Ranked}
 use Rattle.graph.specs.Ends.{Ends}
@@ -16,82 +18,96 @@ use Rattle.graph.proofs.Judging.{balanced-judged}
 use Rattle.graph.proofs.judge.Statement.{statement}
 use Rattle.graph.proofs.judge.Tie as tie
 
+-- the mode
+abbrev root : tie.After-order-of → tie.Start
+root c = c .before .before .before .before .before
+
+abbrev mode : tie.After-order-of → Mode
+mode c = modeIn (root c .args .front .now) (root c .args .channels .now)
+
+proper : (c : tie.After-order-of) → ProperMode (mode c)
+proper c = root c .pre .proper
+
+active : (c : tie.After-order-of) → c .before .before .head-of .result .active ≡ mode c .active
+active c = ap (λ (h : Head). h .active) (c .before .before .head-of .ensures)
+
 -- what the calls gave
-order : (c : tie.After-order-of) → c .order-of .result ≡ sorted (c .before .before .args .mode)
-order c = c .order-of .ensures ∙ ap (λ (ps : List ℕ). orderOf ps (c .before .before .args .mode .active)) (c .before .preds-of .ensures)
+order : (c : tie.After-order-of) → c .order-of .result ≡ sorted (mode c)
+order c = c .order-of .ensures ∙ ap₂ orderOf (c .before .preds-of .ensures) (active c)
+
+left : (c : tie.After-order-of) → c .order-of .result .left ≡ sorted (mode c) .left
+left c = ap (λ (o : Order). o .left) (order c)
 
 returns : tie.Need-returns
 returns c =
-    let r = c .before .before .before .before .before in
-    subst (Judged (r .args .mode)) (sym (c .refused .ensures))
-    (cyclic (order-cyclic (r .args .mode) (r .pre) (λ z. c .before .if1 .taken (ap (λ (o : Order). o .left) (order (c .before .before .before)) ∙ z))))
+    let o = c .before .before .before in
+    subst (Judged (mode o)) (sym (c .refused .ensures)) (cyclic (order-cyclic (mode o) (proper o) (λ z. c .before .if1 .taken (left o ∙ z))))
 
-none-left : (c : tie.Else1) → sorted (c .before .before .before .before .args .mode) .left ≡ 0
-none-left c = ap (λ (o : Order). o .left) (sym (order (c .before .before))) ∙ c .if1 .left
+-- where no actor is left
+abbrev from : tie.Else1 → tie.After-order-of
+from c = c .before .before
 
-first : (c : tie.After-firsts) → c .firsts .result ≡ firsts (c .before .before .before .before .before .args .mode)
-first c =
-    c .firsts .ensures ∙ ap (λ (ps : List ℕ). firstsOf ps (c .before .before .before .before .before .args .mode .active)) (c .before .before .before .before .preds-of .ensures)
+none-left : (c : tie.Else1) → sorted (mode (from c)) .left ≡ 0
+none-left c = sym (left (from c)) ∙ c .if1 .left
 
-last : (c : tie.After-lasts) → c .lasts .result ≡ lasts (c .before .before .before .before .before .before .args .mode)
-last c =
-    c .lasts .ensures
-    ∙ ap (λ (ps : List ℕ). lastsOf ps (c .before .before .before .before .before .before .args .mode .active)) (c .before .before .before .before .before .preds-of .ensures)
+first : (c : tie.After-firsts) → let o = from (c .before) in c .firsts .result ≡ firsts (mode o)
+first c = let o = from (c .before) in c .firsts .ensures ∙ ap₂ firstsOf (o .before .preds-of .ensures) (active o)
 
-firsts-size : (c : tie.After-size) → c .size .result ≡ size ACTORS (firsts (c .before .before .before .before .before .before .before .args .mode))
+last : (c : tie.After-lasts) → let o = from (c .before .before) in c .lasts .result ≡ lasts (mode o)
+last c = let o = from (c .before .before) in c .lasts .ensures ∙ ap₂ lastsOf (o .before .preds-of .ensures) (active o)
+
+firsts-size : (c : tie.After-size) → c .size .result ≡ size ACTORS (firsts (mode (from (c .before .before .before))))
 firsts-size c = c .size .ensures ∙ ap (size ACTORS) (first (c .before .before))
 
-lasts-size : (c : tie.After-size2) → c .size2 .result ≡ size ACTORS (lasts (c .before .before .before .before .before .before .before .before .before .args .mode))
+lasts-size : (c : tie.After-size2) → c .size2 .result ≡ size ACTORS (lasts (mode (from (c .before .before .before .before .before))))
 lasts-size c = c .size2 .ensures ∙ ap (size ACTORS) (last (c .before .before .before))
 
 returns-2 : tie.Need-returns-2
 returns-2 c =
-    let r = c .before .before .before .before .before .before .before .before .before in
-    subst (Judged (r .args .mode)) (sym (c .refused2 .ensures))
-    (no-ends (order-acyclic (r .args .mode) (r .pre) (none-left (c .before .before .before .before .before)))
-    (ends-none (r .args .mode) (r .pre) (λ w. c .before .if2 .taken (firsts-size (c .before .before) ∙ w .0))))
+    let e = c .before .before .before .before .before in
+    let o = from e in
+    subst (Judged (mode o)) (sym (c .refused2 .ensures))
+    (no-ends (order-acyclic (mode o) (proper o) (none-left e)) (ends-none (mode o) (proper o) (λ w. c .before .if2 .taken (firsts-size (c .before .before) ∙ w .0))))
 
 returns-3 : tie.Need-returns-3
 returns-3 c =
-    let r = c .before .before .before .before .before .before .before .before .before .before .before in
-    subst (Judged (r .args .mode)) (sym (c .refused3 .ensures))
-    (no-ends (order-acyclic (r .args .mode) (r .pre) (none-left (c .before .before .before .before .before .before .before)))
-    (ends-none (r .args .mode) (r .pre) (λ w. c .before .if3 .taken (lasts-size (c .before .before) ∙ w .1))))
+    let e = c .before .before .before .before .before .before .before in
+    let o = from e in
+    subst (Judged (mode o)) (sym (c .refused3 .ensures))
+    (no-ends (order-acyclic (mode o) (proper o) (none-left e)) (ends-none (mode o) (proper o) (λ w. c .before .if3 .taken (lasts-size (c .before .before) ∙ w .1))))
 
 -- the depths and the ends that are found
 module _ (c : tie.After-lowest2) where
-  abbrev root : tie.Start
-  root = c .before .before .before .before .before .before .before .before .before .before .before .before .before
+  abbrev both : tie.Else3
+  both = c .before .before .before
 
-  ordered : c .before .before .before .before .before .before .before .before .before .before .before .order-of .result ≡ sorted (root .args .mode)
-  ordered = order (c .before .before .before .before .before .before .before .before .before .before .before)
+  abbrev passed : tie.Else1
+  passed = both .before .before .before .before .before .before
 
-  ranked : Ranked (root .args .mode) (c .before .before .before .before .before .before .before .before .before .before .before .order-of .result .depths)
-  ranked =
-      subst (λ (o : Order). Ranked (root .args .mode) (o .depths)) (sym ordered)
-      (order-ranked (root .args .mode) (root .pre) (none-left (c .before .before .before .before .before .before .before .before .before)))
+  abbrev at : tie.After-order-of
+  at = from passed
 
-  ends : Ends (root .args .mode) (c .before .lowest .result) (c .lowest2 .result)
+  ranked : Ranked (mode at) (at .order-of .result .depths)
+  ranked = subst (λ (o : Order). Ranked (mode at) (o .depths)) (sym (order at)) (order-ranked (mode at) (proper at) (none-left passed))
+
+  ends : Ends (mode at) (c .before .lowest .result) (c .lowest2 .result)
   ends =
-      let k = c .before .before .before in
-      subst (Ends (root .args .mode) (c .before .lowest .result)) (sym (c .lowest2 .ensures ∙ ap lowestOf (last (k .before .before .before .before))))
-      (subst (λ (s : ℕ). Ends (root .args .mode) s (lowestOf (lasts (root .args .mode)))) (sym (c .before .lowest .ensures ∙ ap lowestOf (first (k .before .before .before .before .before))))
-      (ends-found (root .args .mode) (root .pre) (sym (firsts-size (k .before .before .before)) ∙ k .before .before .if2 .left) (sym (lasts-size (k .before)) ∙ k .if3 .left)))
-
-balanced-requires : tie.Need-balanced-requires
-balanced-requires c κs = (root c .pre, ranked c, ends c)
+      let l = both .before .before .before .before in
+      subst₂ (Ends (mode at)) (sym (c .before .lowest .ensures ∙ ap lowestOf (first (l .before)))) (sym (c .lowest2 .ensures ∙ ap lowestOf (last l)))
+      (ends-found (mode at) (proper at) (sym (firsts-size (both .before .before .before)) ∙ both .before .before .if2 .left) (sym (lasts-size (both .before)) ∙ both .if3 .left))
 
 returns-4 : tie.Need-returns-4
 returns-4 c =
-    let r = root (c .before) in
-    subst (Judged (r .args .mode)) (sym (c .balanced .ensures))
-    (balanced-judged (r .args .mode) (r .pre) _ (ranked (c .before)) _ _ (ends (c .before)))
+    let d = c .before in
+    let o = at d in
+    subst (Judged (mode o)) (sym (c .balanced .ensures)) (balanced-judged (mode o) (proper o) _ (ranked d) _ _ (ends d))
 
 pub judge-spec : {M : Type 1} → statement M
 judge-spec =
     tie.close
     (tie.spec
-    (λ c κs. search needs)
+    (λ c κs. c .before .before .pre .front-long)
+    (λ c κs. c .before .before .before .pre)
     (λ c κs. search needs)
     (λ c κs. search needs)
     returns
@@ -105,5 +121,5 @@ judge-spec =
     returns-3
     (λ c κs. search needs)
     (λ c κs. search needs)
-    balanced-requires
+    (λ c κs. (root (at c) .pre, ranked c, ends c))
     returns-4)

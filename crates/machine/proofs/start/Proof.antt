@@ -12,7 +12,7 @@ use Rattle.units.specs.Limits.{MODES}
 use Rattle.terms.specs.declared.refusal.Refusal.{Refusal}
 use Rattle.tables.specs.declared.Table.{Table}
 use Rattle.machine.specs.Plan.{isListed}
-use Rattle.planning.specs.declared.Plan.{Plan}
+use Rattle.planning.specs.Shape.{Plan}
 use Rattle.planner.specs.Plans.{Stored, Leaves}
 use Rattle.planner.proofs.Leaving.{stored-leaves}
 use Rattle.machine.specs.declared.Beginning.the-variants.{Refused}

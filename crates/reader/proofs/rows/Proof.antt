@@ -1,120 +1,125 @@
 -- reader::rows meets its contract. The invariant: the rows before the place were read. Assumes nothing.
 use borrow.Author.Needs.{needs}
-use mathlib.Core.Path.{_≡_, sym, ap, subst, subst₂, _∙_}
+use mathlib.Core.Path.{sym, ap, subst, _∙_}
 use mathlib.Core.List.{List}
-use mathlib.Core.Logic.{⊎-elim}
-use Prim.Native.Nat.{ℕ, _+_, _-_, _<_}
+use Prim.Native.Nat.{ℕ, _-_, _<_}
 use native.Mathlib.Omega.{arith}
-use lib.ListN.{length, set, replicate}
-use Rattle.numbers.specs.Bits.{with-is}
+use lib.ListN.{length, length-replicate}
 use Rattle.numbers.specs.Decides.{decides-true, decides-false}
-use Rattle.units.specs.Limits.{MODES, ACTORS, CHANNELS}
-use Rattle.tables.specs.declared.Channel.{Channel}
-use Rattle.tables.specs.declared.Mode.{Mode}
-use Rattle.tables.specs.declared.Table.{Table}
-use Rattle.tables.specs.Shape.{modeAt, withActor, withChannel}
+use Rattle.units.specs.Limits.{MODES, ACTORS}
 use Rattle.reader.specs.declared.line.Line.{Line}
-use Rattle.reader.specs.Told.{refused, rows, readAs}
-use Rattle.reader.specs.Lines.{channelIn}
-use Rattle.reader.proofs.Progress.{Progress, progress-none, line-places, turned, all-read, Front, front, refused-here, actor-next, channel-next}
+use Rattle.reader.proofs.Progress.{Progress, blank-long, progress-none, line-places, all-read, Front, front, fronts-long, channels-long, front-long, channels-part-long, refused-here, further, actor-next, channel-room, channel-next}
 use Rattle.reader.proofs.rows.Statement.{statement}
 use Rattle.reader.proofs.rows.Tie as tie
 
 abbrev Inv-loop : tie.InvT-loop
-Inv-loop text table₀ homes₀ m₀ mode₀ at₀ row₀ table homes m mode at row = Progress text table homes m mode at row
+Inv-loop text fronts₀ channels₀ homes₀ at₀ row₀ fronts channels homes at row = Progress text fronts channels homes at row
 
 abbrev μ-loop : tie.MeasureT-loop
-μ-loop text table₀ homes₀ m₀ mode₀ at₀ row₀ table homes m mode at row = length text - at
+μ-loop text fronts₀ channels₀ homes₀ at₀ row₀ fronts channels homes at row = length text - at
 
 -- the line that stands at the place
 module _ (c : tie.After-line-at Inv-loop μ-loop) where
   abbrev loop : tie.At-loop Inv-loop μ-loop
   loop = c .before .before
 
+  abbrev start : tie.Start Inv-loop μ-loop
+  start = loop .before .before .before .before
+
   abbrev text : List ℕ
-  text = loop .before .before .before .before .args .text .now
+  text = start .args .text .now
 
   abbrev line : Line
   line = c .line-at .result
 
+  abbrev inv : Progress text (loop .loop .fronts) (loop .loop .channels) (loop .loop .homes) (loop .loop .at) (loop .loop .row)
+  inv = loop .loop .inv
+
   within : loop .loop .at < length text
   within = c .before .loop-test .taken
 
--- its mode is at hand
-module _ (c : tie.Joined1 Inv-loop μ-loop) where
-  abbrev here : tie.After-line-at Inv-loop μ-loop
-  here = c .before .before
-
-  abbrev At : Table → ℕ → Mode → Type 0
-  At t m M = Progress (text here) t (loop here .loop .homes) m M (loop here .loop .at) (loop here .loop .row)
-
-  at-hand : (c .if1 .m ≡ line here .mode) × At (c .if1 .table) (line here .mode) (c .if1 .mode)
-  at-hand =
-      ⊎-elim
-      (λ w. (w .3, subst₂ (λ (t : Table) (M : Mode). At t (line here .mode) M) (sym (w .2)) (sym (w .4)) (turned (loop here .loop .inv) (line here .mode) (line-places (here .line-at .ensures) .0))))
-      (λ w. (w .2 ∙ sym (w .0 .left), subst₂ (λ (t : Table) (M : Mode). At t (line here .mode) M) (sym (w .1)) (sym (w .3)) (subst (λ (k : ℕ). At (loop here .loop .table) k (loop here .loop .mode)) (sym (w .0 .left)) (loop here .loop .inv))))
-      (c .if1 .came)
+  places : (line .mode < MODES) × (line .actor < ACTORS) × (line .to < ACTORS)
+  places = line-places (c .line-at .ensures)
 
 -- it is judged
-judged : (c : tie.After-refusal Inv-loop μ-loop)
-    → let j = c .before .before .before in
-    Front (at-hand j .1 .earlier) (text (here j)) (loop (here j) .loop .at) (line (here j)) (c .refusal .result)
-judged c = let j = c .before .before .before in front (line (here j)) (at-hand j .1) (here j .line-at .ensures) (c .refusal .result) (c .refusal .ensures)
+module _ (c : tie.After-refusal-in Inv-loop μ-loop) where
+  abbrev here : tie.After-line-at Inv-loop μ-loop
+  here = c .before .before .before .before
+
+  judged : Front (inv here .earlier) (text here) (loop here .loop .at) (line here) (c .refusal-in .result)
+  judged = front (inv here) (line here) (here .line-at .ensures) (c .refusal-in .result) (c .refusal-in .ensures)
+
+same-length : tie.Need-same-length Inv-loop μ-loop
+same-length c =
+    let q = c .before .before .before .before .before .before .before in
+    let h = here (q .before .before .before) in
+    ap length (q .clear .ensures) ∙ length-replicate {A = ℕ} _ 0 ∙ fronts-long (inv h) ∙ sym (blank-long (start h .pre) .0)
+
+same-length-2 : tie.Need-same-length-2 Inv-loop μ-loop
+same-length-2 c =
+    let p = c .before .before .before in
+    let h = here (p .before .before .before .before .before .before .before) in
+    ap length (p .clear-bytes .ensures) ∙ length-replicate {A = ℕ} _ 0 ∙ channels-long (inv h) ∙ sym (blank-long (start h .pre) .1)
 
 returns : tie.Need-returns Inv-loop μ-loop
 returns c =
-    let r = c .before .before in
-    let j = r .before .before .before in
-    (refused (r .refusal .result) (loop (here j) .loop .row + 1), refused-here (line (here j)) (at-hand j .1) (within (here j)) (judged r) (c .before .if2 .taken), c .refused .ensures)
+    let p = c .before .before .before in
+    let q = p .before .before .before .before in
+    let r = q .before .before .before in
+    let h = here r in
+    refused-here (inv h) (line h) (h .line-at .ensures) (within h) (judged r) (q .before .before .if1 .taken) (c .refused .ensures) (q .clear .ensures) (p .clear-bytes .ensures)
 
--- what it leaves
-actor-left : (c : tie.Then3 Inv-loop μ-loop)
-    → let j = c .before .before .before .before .before .before in
-    let l = line (here j) in
-    let o = loop (here j) .loop in
-    (o .at < l .next) × Progress (text (here j)) (j .if1 .table) (set (o .homes) (l .actor) (l .is .processor)) (l .mode) (withActor (j .if1 .mode) (l .actor) (l .is)) (l .next) (o .row + 1)
-actor-left c =
-    let e = c .before .before in
-    let r = e .before in
-    let j = r .before .before .before in
-    actor-next (line (here j)) (at-hand j .1) (within (here j)) (subst (Front (at-hand j .1 .earlier) (text (here j)) (loop (here j) .loop .at) (line (here j))) (e .if2 .left) (judged r)) (decides-true (c .before .lists-actor .ensures) (c .if3 .taken))
+-- and passes
+module _ (c : tie.Else1 Inv-loop μ-loop) where
+  abbrev at-row : tie.After-line-at Inv-loop μ-loop
+  at-row = here (c .before)
 
-channel-left : (c : tie.Else3 Inv-loop μ-loop)
-    → let j = c .before .before .before .before .before .before in
-    let l = line (here j) in
-    let o = loop (here j) .loop in
-    (j .if1 .mode .count < CHANNELS) × (o .at < l .next) × Progress (text (here j)) (j .if1 .table) (o .homes) (l .mode) (withChannel (j .if1 .mode) (channelIn l)) (l .next) (o .row + 1)
-channel-left c =
-    let e = c .before .before in
-    let r = e .before in
-    let j = r .before .before .before in
-    channel-next (line (here j)) (at-hand j .1) (within (here j)) (subst (Front (at-hand j .1 .earlier) (text (here j)) (loop (here j) .loop .at) (line (here j))) (e .if2 .left) (judged r)) (decides-false (c .before .lists-actor .ensures) (c .if3 .left))
+  passing : Front (inv at-row .earlier) (text at-row) (loop at-row .loop .at) (line at-row) 0
+  passing = subst (Front (inv at-row .earlier) (text at-row) (loop at-row .loop .at) (line at-row)) (c .if1 .left) (judged (c .before))
+
+  onward : loop at-row .loop .at < line at-row .next
+  onward = further (inv at-row) (line at-row) (at-row .line-at .ensures) (within at-row) passing
+
+-- an actor's row
+module _ (c : tie.After-is Inv-loop μ-loop) where
+  abbrev actor-row : tie.After-line-at Inv-loop μ-loop
+  actor-row = at-row (c .before .before .before)
 
 loop-again : tie.Need-loop-again Inv-loop μ-loop
 loop-again c =
-    let t = c .before .before in
-    let j = t .before .before .before .before .before .before in
-    let l = line (here j) in
-    let M = j .if1 .mode in
-    subst₂ (λ (k x : ℕ). Progress (text (here j)) (j .if1 .table) (set (loop (here j) .loop .homes) (l .actor) (l .is .processor)) k (record { active = x; count = M .count; actors = set (M .actors) (l .actor) (l .is); channels = M .channels }) (l .next) (loop (here j) .loop .row + 1))
-    (sym (at-hand j .0)) (sym (with-is _ _ (c .with .ensures))) (actor-left t .1)
+    let a = c .before .before in
+    let t = a .before .before .before in
+    let e = t .before .before in
+    let h = at-row e in
+    actor-next (inv h) (line h) (h .line-at .ensures) (within h) (passing e) (decides-true (t .before .lists-actor .ensures) (t .if2 .taken)) (a .list-actor .last .0) (a .list-actor .ensures)
+
+-- a channel's row
+module _ (c : tie.After-struct-known2 Inv-loop μ-loop) where
+  abbrev channel-row : tie.After-line-at Inv-loop μ-loop
+  channel-row = at-row (c .before .before .before)
+
+list-channel-requires : tie.Need-list-channel-requires Inv-loop μ-loop
+list-channel-requires c κs =
+    let t = c .before .before .before .before in
+    let e = t .before .before in
+    let h = at-row e in
+    let (m, a, b) = places h in (
+      front-long (inv h) (line h .mode) m,
+      channels-part-long (inv h) (line h .mode) m,
+      channel-room (inv h) (line h) (h .line-at .ensures) (within h) (passing e) (decides-false (t .before .lists-actor .ensures) (t .if2 .left)),
+      rw (c .channel-of .ensures) a,
+      rw (c .channel-of .ensures) b,
+    )
 
 loop-again-2 : tie.Need-loop-again-2 Inv-loop μ-loop
 loop-again-2 c =
-    let j = c .before .before .before .before .before .before .before in
-    let l = line (here j) in
-    let M = j .if1 .mode in
-    subst₂ (λ (k : ℕ) (x : Channel). Progress (text (here j)) (j .if1 .table) (loop (here j) .loop .homes) k (withChannel M x) (l .next) (loop (here j) .loop .row + 1))
-    (sym (at-hand j .0)) (sym (c .channel-of .ensures)) (channel-left (c .before) .2)
-
-returns-2 : tie.Need-returns-2 Inv-loop μ-loop
-returns-2 c =
-    let e = c .before in
-    let g = e .before .loop .inv in
-    (rows (g .earlier), all-read g (omega (arith, e .loop-test .left)), c .done .ensures ∙ ap readAs (g .table-is))
-
-places : (c : tie.After-line-at Inv-loop μ-loop) → (line c .mode < MODES) × (line c .actor < ACTORS) × (line c .to < ACTORS)
-places c = line-places (c .line-at .ensures)
+    let d = c .before .before .before .before in
+    let o = d .before in
+    let t = o .before .before .before .before in
+    let e = t .before .before in
+    let h = at-row e in
+    channel-next (inv h) (line h) (h .line-at .ensures) (within h) (passing e) (decides-false (t .before .lists-actor .ensures) (t .if2 .left))
+    (o .channel-of .result) (o .channel-of .ensures) (d .list-channel .last .0) (d .list-channel .last .1 .0) (d .list-channel .ensures .0) (d .list-channel .ensures .1)
 
 pub rows-spec : {M : Type 1} → statement M
 rows-spec =
@@ -122,41 +127,47 @@ rows-spec =
     (tie.spec
     Inv-loop
     μ-loop
-    (λ c κs. search needs)
-    (λ c. search needs)
-    (λ c.
-    let text = c .before .before .before .args .text .now in
-    subst (λ (t : Table). Progress text t (replicate ACTORS 0) 0 (modeAt t 0) 0 0) (sym (c .before .empty .ensures)) (progress-none text))
+    (λ c. progress-none _ (c .before .before .before .pre))
     (λ c. omega (arith, c .before .loop .inv .few, c .loop-test .taken))
     (λ c κs. search needs)
-    (λ c. omega (arith, c .before .before .before .before .loop .inv .place))
-    (λ c. c .before .before .before .before .loop .inv .place)
-    (λ c. omega (arith, places (c .before .before) .0))
-    (λ c. places (c .before .before) .0)
-    (λ c. omega (arith, places (here c) .1))
-    (λ c. places (here c) .1)
-    (λ c. omega (arith, places (here (c .before)) .2))
-    (λ c. places (here (c .before)) .2)
-    (λ c. omega (arith, places (here (c .before .before)) .1))
-    (λ c. places (here (c .before .before)) .1)
+    (λ c. omega (arith, places (c .before) .0))
+    (λ c. omega (arith, places (c .before) .0))
+    (λ c. omega (arith, places (c .before) .0))
+    (λ c. omega arith)
+    (λ c. omega arith)
+    (λ c. omega (arith, places (c .before .before) .0, fronts-long (inv (c .before .before))))
+    (λ c. omega (arith, places (c .before .before .before) .1))
+    (λ c. places (c .before .before .before) .1)
+    (λ c κs. let h = c .before .before .before in (front-long (inv h) (line h .mode) (places h .0), places h .1, places h .2))
     (λ c κs. search needs)
     (λ c κs. search needs)
+    (λ c κs. search needs)
+    same-length
+    same-length-2
     returns
     (λ c κs. search needs)
-    (λ c κs. places (here (c .before .before .before .before .before .before .before)) .1)
-    (λ c. omega (arith, places (here (c .before .before .before .before .before .before .before .before)) .1))
-    (λ c. places (here (c .before .before .before .before .before .before .before .before)) .1)
-    (λ c. omega (arith, places (here (c .before .before .before .before .before .before .before .before)) .1))
-    (λ c. places (here (c .before .before .before .before .before .before .before .before)) .1)
+    (λ c. omega (arith, places (actor-row c) .0))
+    (λ c. omega arith)
+    (λ c. omega arith)
+    (λ c. omega (arith, places (actor-row c) .0, fronts-long (inv (actor-row c))))
+    (λ c κs. let h = actor-row (c .before) in (front-long (inv h) (line h .mode) (places h .0), places h .1))
+    (λ c. omega (arith, places (actor-row (c .before .before .before .before)) .1))
+    (λ c. places (actor-row (c .before .before .before .before)) .1)
+    (λ c. omega (arith, places (channel-row c) .0))
+    (λ c. omega (arith, places (channel-row c) .0))
+    (λ c. omega (arith, places (channel-row c) .0))
+    (λ c. omega arith)
+    (λ c. omega arith)
+    (λ c. omega (arith, places (channel-row c) .0, fronts-long (inv (channel-row c))))
+    (λ c. omega arith)
+    (λ c. omega arith)
+    (λ c. let h = channel-row (c .before) in omega (arith, places h .0, channels-long (inv h)))
     (λ c κs. search needs)
-    (λ c. omega (arith, channel-left (c .before) .0))
-    (λ c. channel-left (c .before) .0)
-    (λ c. omega (arith, channel-left (c .before) .0))
-    (λ c. omega (arith, actor-left (c .before .before) .0, within (here (c .before .before .before .before .before .before .before .before))))
+    list-channel-requires
+    (λ c. let e = c .before .before .before .before .before .before .before in omega (arith, within (at-row e), onward e))
     loop-again
-    (λ c. omega (arith, channel-left (c .before) .1, within (here (c .before .before .before .before .before .before .before))))
+    (λ c. let e = c .before .before .before .before .before .before .before .before .before .before .before in omega (arith, within (at-row e), onward e))
     loop-again-2
-    (λ c. omega (arith, c .before .loop .inv .place))
-    (λ c. c .before .loop .inv .place)
-    (λ c κs. search needs)
-    returns-2)
+    (λ c. fronts-long (c .before .loop .inv) ∙ sym (blank-long (c .before .before .before .before .before .pre) .0))
+    (λ c. channels-long (c .before .loop .inv) ∙ sym (blank-long (c .before .before .before .before .before .pre) .1))
+    (λ c. all-read (c .before .loop .inv) (c .loop-test .left)))

@@ -24,5 +24,5 @@ put-change-spec =
     (λ c. simp length-set (omega arith))
     (λ c κs. search needs)
     (λ c. simp length-set (omega arith))
-    (λ c. search needs)
+    (λ c. simp length-set)
     returns)

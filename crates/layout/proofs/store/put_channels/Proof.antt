@@ -1,31 +1,43 @@
 -- layout::store::put_channels meets its contract. The invariant: the channels below k are written. Assumes nothing.
 use borrow.Author.Needs.{needs}
-use Prim.Native.Nat.{_≤_, _-_}
+use mathlib.Core.Path.{_≡_, ap₂, _∙_}
+use mathlib.Core.List.{_++_}
+use Prim.Native.Nat.{_≤_, _-_, _*_, _+_}
 use native.Mathlib.Omega.{arith}
 use lib.ListN.{length-take, length-drop}
+use Rattle.numbers.proofs.Laid.{Begun, begun-none, begun-put, begun-all, stretch-is}
 use Rattle.units.specs.Limits.{CHANNELS}
-use Rattle.layout.specs.Words.{CHANNEL-WORDS, channelWordsAt}
-use Rattle.layout.specs.Laws.{length-channel-at}
-use Rattle.numbers.proofs.Laid.{Begun, begun-none, begun-put, begun-all}
+use Rattle.tables.specs.Memory.{CHANNEL-BYTES}
+use Rattle.layout.specs.Words.{CHANNEL-WORDS}
+use Rattle.layout.specs.Blocks.{channelLaid}
+use Rattle.layout.proofs.Laying.{length-channel-laid}
 use Rattle.layout.proofs.store.put_channels.Statement.{statement}
 use Rattle.layout.proofs.store.put_channels.Tie as tie
 
 abbrev Inv-loop : tie.InvT-loop
-Inv-loop words₀ mode part k₀ words k = (k ≤ CHANNELS) × Begun CHANNEL-WORDS (channelWordsAt mode part) CHANNELS words k
+Inv-loop channels carried words₀ k₀ words k = (k ≤ CHANNELS) × Begun CHANNEL-WORDS (channelLaid channels carried) CHANNELS words k
 
 abbrev μ-loop : tie.MeasureT-loop
-μ-loop words₀ mode part k₀ words k = CHANNELS - k
+μ-loop channels carried words₀ k₀ words k = CHANNELS - k
+
+loop-holds : tie.Need-loop-holds Inv-loop μ-loop
+loop-holds c =
+    let s = c .before .before .before in
+    (omega arith, begun-none CHANNEL-WORDS _ (length-channel-laid (s .args .channels .now) (s .args .carried .now)) CHANNELS _ (s .pre .2))
 
 loop-again : tie.Need-loop-again Inv-loop μ-loop
 loop-again c =
-    let l = c .before .before .before .before .before .before .before .before .loop in
-    let a = c .before .before .before .before .before .before .before .before .before .before .args in
-    (omega arith, begun-put CHANNEL-WORDS _ (length-channel-at (a .t1) (a .t2)) CHANNELS _ _ (l .k) (omega arith) (c .before .before .put-channel .ensures) (l .inv .1))
+    let l = c .before .before .before .before .before .before .before .loop in
+    let s = c .before .before .before .before .before .before .before .before .before .before .before in
+    let k = l .k in
+    let laid = c .before .before .put-channel .ensures
+    ∙ ap₂ _++_ (stretch-is (CHANNEL-BYTES * k) (CHANNEL-BYTES * k + CHANNEL-BYTES) CHANNEL-BYTES (s .args .channels .now) (omega arith) (omega arith)) (stretch-is (2 * k) (2 * k + 2) 2 (s .args .carried .now) (omega arith) (omega arith)) in
+    (omega arith, begun-put CHANNEL-WORDS _ (length-channel-laid (s .args .channels .now) (s .args .carried .now)) CHANNELS _ _ k (omega arith) laid (l .inv .1))
 
 returns : tie.Need-returns Inv-loop μ-loop
 returns c =
-    let a = c .before .before .before .args in
-    begun-all CHANNEL-WORDS _ (length-channel-at (a .t1) (a .t2)) CHANNELS _ _ (omega arith) (c .before .loop .inv .1)
+    let s = c .before .before .before .before .before in
+    begun-all CHANNEL-WORDS _ (length-channel-laid (s .args .channels .now) (s .args .carried .now)) CHANNELS _ _ (omega arith) (c .before .loop .inv .1)
 
 pub put-channels-spec : {M : Type 1} → statement M
 put-channels-spec =
@@ -33,7 +45,7 @@ put-channels-spec =
     (tie.spec
     Inv-loop
     μ-loop
-    (λ c. (omega arith, begun-none CHANNEL-WORDS _ (length-channel-at (c .before .args .t1) (c .before .args .t2)) CHANNELS _ (c .before .pre)))
+    loop-holds
     (λ c. omega arith)
     (λ c. omega arith)
     (λ c. omega arith)
@@ -46,7 +58,12 @@ put-channels-spec =
     (λ c. omega arith)
     (λ c. omega arith)
     (λ c. omega arith)
-    (λ c κs. simp (length-take, length-drop) (omega arith))
+    (λ c. omega arith)
+    (λ c. omega arith)
+    (λ c. omega arith)
+    (λ c. omega arith)
+    (λ c. omega arith)
+    (λ c κs. (simp (length-take, length-drop) (omega arith), simp (length-take, length-drop) (omega arith), simp (length-take, length-drop) (omega arith)))
     (λ c. omega arith)
     (λ c. omega arith)
     loop-again

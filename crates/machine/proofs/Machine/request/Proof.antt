@@ -13,7 +13,7 @@ use Rattle.run.specs.Machine.{Machine, Request}
 use Rattle.run.proofs.Delay.{Accepted}
 use Rattle.machine.specs.Plan.{planOf}
 use Rattle.tables.specs.declared.Table.{Table}
-use Rattle.planning.specs.declared.Plan.{Plan}
+use Rattle.planning.specs.Shape.{Plan}
 use Rattle.planner.specs.Plans.{Stored, Leaves}
 use Rattle.planner.proofs.Leaving.{stored-leaves}
 use Rattle.machine.specs.declared.Course.{Course}

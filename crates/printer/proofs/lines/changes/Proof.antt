@@ -3,6 +3,7 @@ use Prim.Native.Nat.{_-_, _≤_}
 use native.Mathlib.Omega.{arith}
 use Rattle.units.specs.Limits.{MODES}
 use Rattle.csv.specs.Laid.{Laid}
+use Rattle.layout.specs.Read.{planOf}
 use Rattle.printer.specs.Texts.{texts}
 use Rattle.printer.specs.Printed.{fromText}
 use Rattle.csv.proofs.Laying.{laid-length}
@@ -11,17 +12,17 @@ use Rattle.printer.proofs.lines.changes.Statement.{statement}
 use Rattle.printer.proofs.lines.changes.Tie as tie
 
 abbrev Inv-loop : tie.InvT-loop
-Inv-loop out₀ from active changes at₀ o₀ out at o = (o ≤ MODES) × Laid out₀ from (texts (λ o. fromText active changes o) o) out at
+Inv-loop out₀ from active words at₀ o₀ out at o = (o ≤ MODES) × Laid out₀ from (texts (λ o. fromText active (planOf words .changes) o) o) out at
 
 abbrev μ-loop : tie.MeasureT-loop
-μ-loop out₀ from active changes at₀ o₀ out at o = MODES - o
+μ-loop out₀ from active words at₀ o₀ out at o = MODES - o
 
 changes-from-requires : tie.Need-changes-from-requires Inv-loop μ-loop
 changes-from-requires c κs =
-    let t = c .before in
-    let l = t .before .loop in
-    let p = t .before .before .before .pre in
-    (room-next _ (l .o) MODES (t .loop-test .taken) (p .0) (l .inv .1), t .loop-test .taken, p .1, p .2)
+    let i = c .before in
+    let l = i .before .loop in
+    let p = i .before .before .before .before .pre in
+    (room-next _ (l .o) MODES (i .loop-test .taken) (p .0) (l .inv .1), i .loop-test .taken, p .1, p .2)
 
 loop-again : tie.Need-loop-again Inv-loop μ-loop
 loop-again c =

@@ -1,0 +1,121 @@
+-- What is laid into the words of a mode, part by part. Assumes nothing.
+use mathlib.Core.Path.{_≡_, refl, sym, ap, ap₂, _∙_}
+use mathlib.Core.Bool.{Bool, cond, not}
+use mathlib.Core.List.{List, [], _∷_, _++_}
+use Prim.Native.Nat.{ℕ, _+_, _-_, _*_, _≤_, _<_}
+use native.Mathlib.Decide.{decLt}
+use native.Mathlib.Omega.{arith}
+use borrow.Rule.Slice.PartMut.{putMid}
+use borrow.Author.Tests.{lt-ltb, le-ltb}
+use lib.Dec.{ltb, eqb}
+use lib.ListN.{length, getD, set, take, drop, length-take, length-drop}
+use lib.Seq.{take-all, drop-at, getD-take}
+use Rattle.numbers.specs.Joined.{joined, part, joined-same, length-joined, joined-part, getD-joined}
+use Rattle.numbers.specs.Tab.{tab, is-tab, tab-same, stretchOf}
+use Rattle.numbers.proofs.Laid.{put-two, part-is, parts-joined, joined-put, stretch-joined}
+use Rattle.units.specs.Limits.{ACTORS, CHANNELS}
+use Rattle.units.specs.declared.Tick.{Tick}
+use Rattle.units.specs.Ticks.{tick}
+use Rattle.tables.specs.declared.memory.Head.{Head}
+use Rattle.tables.specs.declared.memory.Times.{Times}
+use Rattle.tables.specs.declared.Actor.{Actor}
+use Rattle.tables.specs.Memory.{HEAD-WORDS, ACTOR-WORDS, FRONT-WORDS, headWords, actorWords, frontWords, channelBytes, headIn, actorsAt, actorIn, timesIn, actorOf, timesOf, modeIn}
+use Rattle.tables.proofs.Remembered.{actor-words, channel-stretch, actor-in, channel-in}
+use Rattle.planning.specs.declared.ModePlan.{ModePlan}
+use Rattle.layout.specs.declared.load.Pace.{Pace}
+use Rattle.layout.specs.Words.{CHANNEL-WORDS, headWith, timesAt, modeWords}
+use Rattle.layout.specs.Blocks.{timedActor, carriedAt, carriedWords, channelLaid, modeLaid, paceOf}
+
+-- the last three words of an actor, stored one by one
+pub times-stored : (l : List ℕ) (t : Times) (firings period start : ℕ) → length l ≡ ACTOR-WORDS → firings ≡ t .firings .0 → period ≡ t .period .0 → start ≡ t .start .0
+    → set (set (set l 3 firings) 4 period) 5 start ≡ actorWords (actorOf l) t
+unfolding tab
+times-stored l t firings period start long e f g =
+    ap (λ (l : List ℕ). set (set (set l 3 firings) 4 period) 5 start) (is-tab ACTOR-WORDS (λ j. getD l j 0) l 0 long (λ j h. refl))
+    ∙ λ x. getD l 0 0 ∷ (getD l 1 0 ∷ (getD l 2 0 ∷ (e x ∷ (f x ∷ (g x ∷ [])))))
+
+-- an actor's words are the actor and what is planned of it
+pub actor-whole : (l : List ℕ) → length l ≡ ACTOR-WORDS → l ≡ actorWords (actorOf l) (timesOf l)
+unfolding tab
+actor-whole l long = is-tab ACTOR-WORDS (λ j. getD l j 0) l 0 long (λ j h. refl)
+
+-- the words of all actors, of which those below i have what is planned of them
+module _ (l : List ℕ) (p : ModePlan) where
+  abbrev by : ℕ → Bool → List ℕ
+  by j b = actorWords (actorOf (part ACTOR-WORDS j l)) (cond b (timesAt p j) (timesOf (part ACTOR-WORDS j l)))
+
+  abbrev pub Timed : List ℕ → ℕ → Type 0
+  Timed words i = words ≡ joined ACTORS (λ j. by j (ltb j i))
+
+  pub timed-none : length l ≡ ACTOR-WORDS * ACTORS → Timed l 0
+  timed-none long =
+      sym (take-all (ACTOR-WORDS * ACTORS) l (omega arith))
+      ∙ parts-joined ACTOR-WORDS (λ j. by j (ltb j 0)) l ACTORS
+      (λ j h. actor-whole (part ACTOR-WORDS j l) (length-take ACTOR-WORDS (drop (ACTOR-WORDS * j) l) ∙ simp length-drop (omega arith)) ∙ ap (by j) (sym (le-ltb j 0 (omega arith))))
+
+  -- a place that is not i is as far with one more
+  aside : (i j : ℕ) → (j ≡ i → ⊥) → ltb j i ≡ ltb j (i + 1)
+  aside i j n = go (decLt j i)
+    where
+      go : Dec (j < i) → ltb j i ≡ ltb j (i + 1)
+      go (yes h) = lt-ltb j i h ∙ sym (lt-ltb j (i + 1) (omega arith))
+      go (no m) = le-ltb j i (omega arith) ∙ sym (le-ltb j (i + 1) (omega (arith, n)))
+
+  pub timed-next : (words b : List ℕ) (i : ℕ) → i < ACTORS → Timed words i → b ≡ actorWords (actorOf (take (ACTOR-WORDS * i + ACTOR-WORDS - ACTOR-WORDS * i) (drop (ACTOR-WORDS * i) words))) (timesAt p i)
+      → Timed (putMid (ACTOR-WORDS * i) (ACTOR-WORDS * i + ACTOR-WORDS - ACTOR-WORDS * i) words b) (i + 1)
+  timed-next words b i h e g =
+      let wide : ACTOR-WORDS * i + ACTOR-WORDS - ACTOR-WORDS * i ≡ ACTOR-WORDS = omega arith in
+      let here : take (ACTOR-WORDS * i + ACTOR-WORDS - ACTOR-WORDS * i) (drop (ACTOR-WORDS * i) words) ≡ by i (ltb i i)
+      = part-is ACTOR-WORDS i words ∙ ap (part ACTOR-WORDS i) e ∙ joined-part ACTOR-WORDS (λ j. by j (ltb j i)) (λ j. refl) ACTORS i h in
+      let next : b ≡ by i (ltb i (i + 1)) = g ∙ ap (λ (w : List ℕ). actorWords (actorOf w) (timesAt p i)) here ∙ ap (by i) (sym (lt-ltb i (i + 1) (omega arith))) in
+      ap₂ (λ (k : ℕ) (w : List ℕ). putMid (ACTOR-WORDS * i) k w b) wide e
+      ∙ ap (putMid (ACTOR-WORDS * i) ACTOR-WORDS (joined ACTORS (λ j. by j (ltb j i)))) next
+      ∙ joined-put ACTOR-WORDS ACTORS i (λ j. by j (ltb j i)) (λ j. by j (ltb j (i + 1))) (λ j. refl) h (λ j l n. ap (by j) (aside i j n))
+
+  pub timed-long : (words : List ℕ) (i : ℕ) → Timed words i → length words ≡ ACTOR-WORDS * ACTORS
+  timed-long words i e = ap length e ∙ length-joined ACTOR-WORDS (λ j. by j (ltb j i)) (λ j. refl) ACTORS
+
+  pub timed-all : (words : List ℕ) (i : ℕ) → i ≡ ACTORS → Timed words i → words ≡ joined ACTORS (timedActor l p)
+  timed-all words i e w = w ∙ joined-same ACTORS _ _ (λ j h. ap (by j) (lt-ltb j i (omega arith)))
+
+-- what is planned of a mode, put into its front
+module _ (f : List ℕ) (long : length f ≡ FRONT-WORDS) (p : ModePlan) where
+  abbrev BACK : ℕ
+  BACK = ACTOR-WORDS * ACTORS
+
+  pub front-planned : (h a : List ℕ) → h ≡ headWords (headWith (headIn f) p) → a ≡ joined ACTORS (timedActor (take BACK (drop HEAD-WORDS (putMid 0 HEAD-WORDS f h))) p)
+      → putMid HEAD-WORDS BACK (putMid 0 HEAD-WORDS f h) a ≡ frontWords (headWith (headIn f) p) (actorIn f) (timesAt p)
+  front-planned h a e g =
+      let back : take BACK (drop HEAD-WORDS (putMid 0 HEAD-WORDS f h)) ≡ drop HEAD-WORDS f
+      = ap (take BACK) (drop-at h (drop HEAD-WORDS f) HEAD-WORDS (ap length e)) ∙ take-all BACK (drop HEAD-WORDS f) (omega (arith, length-drop HEAD-WORDS f)) in
+      let actors : a ≡ joined ACTORS (λ i. actorWords (actorIn f i) (timesAt p i))
+      = g ∙ joined-same ACTORS _ _ (λ i l. ap (λ (x : List ℕ). actorWords (actorOf (part ACTOR-WORDS i x)) (timesAt p i)) back ∙ ap (λ (x : List ℕ). actorWords (actorOf x) (timesAt p i)) (actor-words f long i l)) in
+      put-two HEAD-WORDS BACK (headWords (headWith (headIn f) p)) _ f h a long refl (length-joined ACTOR-WORDS (λ i. actorWords (actorIn f i) (timesAt p i)) (λ i. refl) ACTORS) e actors
+
+-- the words of a mode, laid from its planned front, its bytes and what is planned of its channels
+module _ (f l : List ℕ) (p : ModePlan) where
+  pub mode-laid : modeLaid (frontWords (headWith (headIn f) p) (actorIn f) (timesAt p)) l (carriedWords p) ≡ modeWords (modeIn f l) p
+  unfolding modeWords
+  mode-laid =
+      ap₂ (λ (x y : List ℕ). (headWords (headWith (headIn f) p) ++ x) ++ y)
+      (joined-same ACTORS _ _ (λ i h. ap (λ (a : Actor). actorWords a (timesAt p i)) (sym (actor-in f l i h))))
+      (joined-same CHANNELS _ _ (λ k h. ap₂ _++_ (channel-stretch l k ∙ ap channelBytes (sym (channel-in f l k h))) (stretch-joined 2 CHANNELS k (carriedAt p) (λ j. refl) h)))
+
+-- channels that are laid have their number of words
+pub length-channel-laid : (l c : List ℕ) (k : ℕ) → length (channelLaid l c k) ≡ CHANNEL-WORDS
+unfolding tab
+length-channel-laid l c k = refl
+
+pub length-laid : (l c : List ℕ) → length (joined CHANNELS (channelLaid l c)) ≡ CHANNEL-WORDS * CHANNELS
+length-laid l c = length-joined CHANNEL-WORDS (channelLaid l c) (length-channel-laid l c) CHANNELS
+
+-- the pace of a mode stands in its front
+pub pace-read : (w : List ℕ) (h : Head) (t : Times) → getD w 4 0 < ACTORS → h ≡ headIn (take FRONT-WORDS w) → t ≡ timesIn (take FRONT-WORDS w) (h .sink)
+    → _≡_ {A = Pace} (record { listed = not (eqb (getD w 0 0) 0); iteration = h .iteration; «sink_start» = t .start }) (paceOf w)
+pace-read w h t l e g =
+    let sink : h .sink ≡ getD w 4 0 = ap (λ (h : Head). h .sink) e ∙ getD-take FRONT-WORDS w 4 0 (omega arith) in
+    ap₂ (λ (i s : Tick). record { listed = not (eqb (getD w 0 0) 0); iteration = i; «sink_start» = s })
+    (ap (λ (h : Head). h .iteration) e ∙ ap tick (getD-take FRONT-WORDS w 2 0 (omega arith)))
+    (ap (λ (t : Times). t .start) g
+    ∙ ap (λ (n : ℕ). timesIn (take FRONT-WORDS w) n .start) sink
+    ∙ ap tick (getD-take FRONT-WORDS w (actorsAt (getD w 4 0) + 5) 0 (omega arith)))
