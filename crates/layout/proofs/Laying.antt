@@ -1,30 +1,33 @@
 -- What is laid into the words of a mode, part by part. Assumes nothing.
-use mathlib.Core.Path.{_≡_, refl, sym, ap, ap₂, _∙_}
+use mathlib.Core.Path.{_≡_, refl, sym, ap, ap₂, subst₂, _∙_}
 use mathlib.Core.Bool.{Bool, cond, not}
-use mathlib.Core.List.{List, [], _∷_, _++_}
+use mathlib.Core.List.{List, [], _∷_, _++_, append-assoc}
 use Prim.Native.Nat.{ℕ, _+_, _-_, _*_, _≤_, _<_}
 use native.Mathlib.Decide.{decLt}
 use native.Mathlib.Omega.{arith}
 use borrow.Rule.Slice.PartMut.{putMid}
 use borrow.Author.Tests.{lt-ltb, le-ltb}
 use lib.Dec.{ltb, eqb}
-use lib.ListN.{length, getD, set, take, drop, length-take, length-drop}
+use lib.ListN.{length, length-append, getD, set, take, drop, length-take, length-drop, replicate, length-replicate}
 use lib.Seq.{take-all, drop-at, getD-take}
 use Rattle.numbers.specs.Joined.{joined, part, joined-same, length-joined, joined-part, getD-joined}
 use Rattle.numbers.specs.Tab.{tab, is-tab, tab-same, stretchOf}
-use Rattle.numbers.proofs.Laid.{put-two, part-is, parts-joined, joined-put, stretch-joined}
+use Rattle.numbers.proofs.Laid.{Laid, laid-none, laid-put, laid-all, put-two, part-is, parts-joined, joined-put, stretch-joined, joined-zeros}
 use Rattle.units.specs.Limits.{ACTORS, CHANNELS}
 use Rattle.units.specs.declared.Tick.{Tick}
 use Rattle.units.specs.Ticks.{tick}
 use Rattle.tables.specs.declared.memory.Head.{Head}
 use Rattle.tables.specs.declared.memory.Times.{Times}
 use Rattle.tables.specs.declared.Actor.{Actor}
+use Rattle.tables.specs.declared.Channel.{Channel}
+use Rattle.tables.specs.declared.Mode.{Mode}
+use Rattle.tables.specs.Shape.{channelAt}
 use Rattle.tables.specs.Memory.{HEAD-WORDS, ACTOR-WORDS, FRONT-WORDS, headWords, actorWords, frontWords, channelBytes, headIn, actorsAt, actorIn, timesIn, actorOf, timesOf, modeIn}
 use Rattle.tables.proofs.Remembered.{actor-words, channel-stretch, actor-in, channel-in}
 use Rattle.planning.specs.declared.ModePlan.{ModePlan}
 use Rattle.layout.specs.declared.load.Pace.{Pace}
-use Rattle.layout.specs.Words.{CHANNEL-WORDS, headWith, timesAt, modeWords}
-use Rattle.layout.specs.Blocks.{timedActor, carriedAt, carriedWords, channelLaid, modeLaid, paceOf}
+use Rattle.layout.specs.Words.{CHANNEL-WORDS, MODE-WORDS, headWith, timesAt, modeWords}
+use Rattle.layout.specs.Blocks.{timedActor, carriedAt, carriedWords, channelLaid, modeLaid, Closed, Ended, paceOf}
 
 -- the last three words of an actor, stored one by one
 pub times-stored : (l : List ℕ) (t : Times) (firings period start : ℕ) → length l ≡ ACTOR-WORDS → firings ≡ t .firings .0 → period ≡ t .period .0 → start ≡ t .start .0
@@ -94,12 +97,15 @@ module _ (f : List ℕ) (long : length f ≡ FRONT-WORDS) (p : ModePlan) where
 
 -- the words of a mode, laid from its planned front, its bytes and what is planned of its channels
 module _ (f l : List ℕ) (p : ModePlan) where
+  pub channel-laid : (k : ℕ) → k < CHANNELS → channelLaid l (carriedWords p) k ≡ channelBytes (channelAt (modeIn f l) k) ++ carriedAt p k
+  channel-laid k h = ap₂ _++_ (channel-stretch l k ∙ ap channelBytes (sym (channel-in f l k h))) (stretch-joined 2 CHANNELS k (carriedAt p) (λ j. refl) h)
+
   pub mode-laid : modeLaid (frontWords (headWith (headIn f) p) (actorIn f) (timesAt p)) l (carriedWords p) ≡ modeWords (modeIn f l) p
   unfolding modeWords
   mode-laid =
       ap₂ (λ (x y : List ℕ). (headWords (headWith (headIn f) p) ++ x) ++ y)
       (joined-same ACTORS _ _ (λ i h. ap (λ (a : Actor). actorWords a (timesAt p i)) (sym (actor-in f l i h))))
-      (joined-same CHANNELS _ _ (λ k h. ap₂ _++_ (channel-stretch l k ∙ ap channelBytes (sym (channel-in f l k h))) (stretch-joined 2 CHANNELS k (carriedAt p) (λ j. refl) h)))
+      (joined-same CHANNELS _ _ channel-laid)
 
 -- channels that are laid have their number of words
 pub length-channel-laid : (l c : List ℕ) (k : ℕ) → length (channelLaid l c k) ≡ CHANNEL-WORDS
@@ -108,6 +114,61 @@ length-channel-laid l c k = refl
 
 pub length-laid : (l c : List ℕ) → length (joined CHANNELS (channelLaid l c)) ≡ CHANNEL-WORDS * CHANNELS
 length-laid l c = length-joined CHANNEL-WORDS (channelLaid l c) (length-channel-laid l c) CHANNELS
+
+-- a mode put part by part: its front, its channels, and 0 behind the last
+module _ (f l c : List ℕ) (closed : Closed f l c) (n : ℕ) (e : n ≡ headIn f .count) where
+  abbrev END : ℕ
+  END = FRONT-WORDS + CHANNEL-WORDS * n
+
+  pub counted : n ≤ CHANNELS
+  counted = omega (arith, closed .count)
+
+  closed-channels : joined CHANNELS (channelLaid l c) ≡ joined n (channelLaid l c) ++ replicate (CHANNEL-WORDS * (CHANNELS - n)) 0
+  closed-channels =
+      let whole : CHANNELS ≡ n + (CHANNELS - n) = omega (arith, counted) in
+      ap (λ (k : ℕ). joined k (channelLaid l c)) whole ∙ joined-zeros CHANNEL-WORDS n (CHANNELS - n) (channelLaid l c) (λ k h b. closed .none k (omega arith) (omega arith))
+
+  pub mode-put : (w x y z : List ℕ) → length w ≡ MODE-WORDS → length f ≡ FRONT-WORDS → x ≡ f → y ≡ joined n (channelLaid l c)
+      → z ≡ replicate (length (take (MODE-WORDS - END) (drop END (putMid FRONT-WORDS (END - FRONT-WORDS) (putMid 0 FRONT-WORDS w x) y)))) 0
+      → putMid END (MODE-WORDS - END) (putMid FRONT-WORDS (END - FRONT-WORDS) (putMid 0 FRONT-WORDS w x) y) z ≡ modeLaid f l c
+  mode-put w x y z long front xe ye ze =
+      let v = putMid FRONT-WORDS (END - FRONT-WORDS) (putMid 0 FRONT-WORDS w x) y in
+      let channels = length-joined CHANNEL-WORDS (channelLaid l c) (length-channel-laid l c) n in
+      let wide : CHANNEL-WORDS * n ≡ END - FRONT-WORDS = omega arith in
+      let first : Laid MODE-WORDS (f ++ joined n (channelLaid l c)) v
+      = laid-put FRONT-WORDS (END - FRONT-WORDS) ye (laid-put {w = w} 0 FRONT-WORDS xe (laid-none long) refl front (omega arith)) front (channels ∙ wide) (omega (arith, counted)) in
+      let behind : length (take (MODE-WORDS - END) (drop END v)) ≡ CHANNEL-WORDS * (CHANNELS - n)
+      = length-take (MODE-WORDS - END) (drop END v) ∙ simp length-drop (omega (arith, first .long, counted)) in
+      let end : length (f ++ joined n (channelLaid l c)) ≡ END = length-append f _ ∙ ap₂ _+_ front channels in
+      let rest : length (replicate {A = ℕ} (CHANNEL-WORDS * (CHANNELS - n)) 0) ≡ MODE-WORDS - END
+      = length-replicate (CHANNEL-WORDS * (CHANNELS - n)) 0 ∙ omega (arith, counted) in
+      laid-all (laid-put END (MODE-WORDS - END) (ze ∙ ap (λ (k : ℕ). replicate {A = ℕ} k 0) behind) first end rest (omega (arith, counted)))
+      (length-append (f ++ joined n (channelLaid l c)) _ ∙ omega (arith, end, rest, counted))
+      ∙ append-assoc f (joined n (channelLaid l c)) _ ∙ ap (λ (x : List ℕ). f ++ x) (sym closed-channels)
+
+-- a channel that is not there is laid as 0
+laid-none-there : (m : Mode) (p : ModePlan) (k : ℕ) → Ended m p → k < CHANNELS → m .count ≤ k → channelBytes (channelAt m k) ++ carriedAt p k ≡ replicate CHANNEL-WORDS 0
+unfolding tab
+laid-none-there m p k ended h b = ap₂ (λ (c : Channel) (l : List ℕ). channelBytes c ++ l) (ended .no-channel k h b) (ended .none-carried k h b)
+
+-- so the words of a mode that has an end are closed behind its last channel
+pub ended-closed : (m : Mode) (p : ModePlan) (f l c : List ℕ) → Ended m p → headIn f .count ≡ m .count → ((k : ℕ) → k < CHANNELS → channelLaid l c k ≡ channelBytes (channelAt m k) ++ carriedAt p k) → Closed f l c
+ended-closed m p f l c ended count laid =
+    record {
+      count = omega (arith, count, ended .count);
+      none = λ k h b. laid k h ∙ laid-none-there m p k ended h (omega (arith, count));
+    }
+
+-- a front that is copied, with what is planned of its mode
+module _ (f l copied front carried : List ℕ) (p : ModePlan) (e : copied ≡ f) (front-is : front ≡ frontWords (headWith (headIn copied) p) (actorIn copied) (timesAt p)) (carried-are : carried ≡ carriedWords p) where
+  planned : front ≡ frontWords (headWith (headIn f) p) (actorIn f) (timesAt p)
+  planned = front-is ∙ ap (λ (f : List ℕ). frontWords (headWith (headIn f) p) (actorIn f) (timesAt p)) e
+
+  pub copied-closed : Ended (modeIn f l) p → Closed front l carried
+  copied-closed ended = subst₂ (λ (x y : List ℕ). Closed x l y) (sym planned) (sym carried-are) (ended-closed (modeIn f l) p _ l (carriedWords p) ended refl (channel-laid f l p))
+
+  pub copied-laid : modeLaid front l carried ≡ modeWords (modeIn f l) p
+  copied-laid = ap₂ (λ (x y : List ℕ). modeLaid x l y) planned carried-are ∙ mode-laid f l p
 
 -- the pace of a mode stands in its front
 pub pace-read : (w : List ℕ) (h : Head) (t : Times) → getD w 4 0 < ACTORS → h ≡ headIn (take FRONT-WORDS w) → t ≡ timesIn (take FRONT-WORDS w) (h .sink)

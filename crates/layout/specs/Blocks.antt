@@ -1,20 +1,23 @@
 -- Single blocks of the words, by themselves.
+use mathlib.Core.Path.{_≡_}
 use mathlib.Core.Bool.{not}
 use mathlib.Core.List.{List, [], _∷_, _++_}
-use Prim.Native.Nat.{ℕ, _+_, _*_, _%_}
+use Prim.Native.Nat.{ℕ, _+_, _*_, _%_, _≤_, _<_}
 use lib.Dec.{eqb}
-use lib.ListN.{getD}
+use lib.ListN.{getD, replicate}
 use Rattle.numbers.specs.Joined.{joined, part}
 use Rattle.numbers.specs.Tab.{stretchOf}
 use Rattle.units.specs.Limits.{CHANNELS}
 use Rattle.units.specs.Ticks.{tick}
 use Rattle.units.specs.Tokens.{token}
-use Rattle.tables.specs.Memory.{ACTOR-WORDS, CHANNEL-BYTES, actorWords, actorOf, timesIn}
+use Rattle.tables.specs.declared.Mode.{Mode}
+use Rattle.tables.specs.Shape.{channelAt, emptyChannel}
+use Rattle.tables.specs.Memory.{ACTOR-WORDS, CHANNEL-BYTES, actorWords, actorOf, headIn, timesIn}
 use Rattle.change.specs.declared.Timing.{Timing}
 use Rattle.planning.specs.declared.ModePlan.{ModePlan}
 use Rattle.layout.specs.declared.load.Link.{Link}
 use Rattle.layout.specs.declared.load.Pace.{Pace}
-use Rattle.layout.specs.Words.{timesAt}
+use Rattle.layout.specs.Words.{CHANNEL-WORDS, timesAt}
 
 -- the words of actor i, of those of all actors, with what is planned of it
 abbrev pub timedActor : List ℕ → ModePlan → ℕ → List ℕ
@@ -36,6 +39,17 @@ channelLaid channels carried k = stretchOf (CHANNEL-BYTES * k) CHANNEL-BYTES cha
 
 abbrev pub modeLaid : List ℕ → List ℕ → List ℕ → List ℕ
 modeLaid front channels carried = front ++ joined CHANNELS (channelLaid channels carried)
+
+-- nothing but 0 is laid behind the last channel
+pub record Closed (front channels carried : List ℕ) : Type 0 where
+  pub count : headIn front .count ≤ CHANNELS
+  pub none : (k : ℕ) → k < CHANNELS → headIn front .count ≤ k → channelLaid channels carried k ≡ replicate CHANNEL-WORDS 0
+
+-- behind the last channel of a mode there is none, and nothing is planned
+pub record Ended (m : Mode) (p : ModePlan) : Type 0 where
+  pub count : m .count ≤ CHANNELS
+  pub no-channel : (k : ℕ) → k < CHANNELS → m .count ≤ k → channelAt m k ≡ emptyChannel
+  pub none-carried : (k : ℕ) → k < CHANNELS → m .count ≤ k → carriedAt p k ≡ 0 ∷ 0 ∷ []
 
 -- what the words of a channel say of it as it is planned; a place that is too large for a byte is cut
 abbrev pub linkOf : List ℕ → Link

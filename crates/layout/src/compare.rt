@@ -14,6 +14,7 @@ ghost use lib.ListN.{length, take, replicate};
 ghost use Rattle.numbers.specs.Decides.{Decides};
 ghost use Rattle.tables.specs.Memory.{FRONT-WORDS, CHANNELS-BYTES, modeIn};
 ghost use Rattle.layout.specs.Words.{MODE-WORDS, CHANGE-WORDS, modeWords, changeWords};
+ghost use Rattle.layout.specs.Blocks.{Ended};
 
 // Whether two lists of words are the same.
 fn same(a: &[u64], b: &[u64]) -> bool
@@ -30,7 +31,7 @@ fn same(a: &[u64], b: &[u64]) -> bool
 
 // Whether words are those of the mode whose front they begin with and whose channels these are, with what is planned of it.
 pub fn mode_holds(words: &[u64], channels: &[u8], part: ModePlan) -> bool
-    requires { ⌜ (length (now words) ≡ MODE-WORDS) × (length (now channels) ≡ CHANNELS-BYTES) ⌝ }
+    requires { ⌜ (length (now words) ≡ MODE-WORDS) × (length (now channels) ≡ CHANNELS-BYTES) × Ended (modeIn (take FRONT-WORDS (now words)) (now channels)) part ⌝ }
     ensures { λ r. ⌜ Decides (now (words .entry) ≡ modeWords (modeIn (take FRONT-WORDS (now (words .entry))) (now (channels .entry))) part) r ⌝ }
 {
     let mut front = [0u64; FRONT_WORDS];

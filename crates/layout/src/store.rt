@@ -9,19 +9,20 @@ use tables::memory::FRONT_WORDS;
 use tables::memory::HEAD_WORDS;
 use tables::memory::Head;
 use tables::memory::Times;
+use tables::memory::clear;
 use tables::memory::head_of;
 use units::Token;
 use units::limits::ACTORS;
 use units::limits::CHANNELS;
 ghost use mathlib.Core.Path.{_≡_};
 ghost use mathlib.Core.List.{[], _∷_, _++_};
-ghost use Prim.Native.Nat.{_*_};
+ghost use Prim.Native.Nat.{_*_, _≤_};
 ghost use lib.ListN.{length};
 ghost use Rattle.numbers.specs.Joined.{joined};
 ghost use Rattle.units.specs.Limits.{ACTORS as ACTORS-LIMIT, CHANNELS as CHANNELS-LIMIT};
 ghost use Rattle.tables.specs.Memory.{HEAD-WORDS, ACTOR-WORDS, FRONT-WORDS, CHANNEL-BYTES, CHANNELS-BYTES, headWords, actorWords, frontWords, headIn, actorIn, actorOf};
 ghost use Rattle.layout.specs.Words.{CHANNEL-WORDS, MODE-WORDS, CHANGE-WORDS, headWith, timesAt, changeWords};
-ghost use Rattle.layout.specs.Blocks.{CARRIED-WORDS, carriedWords, channelLaid, modeLaid, timedActor};
+ghost use Rattle.layout.specs.Blocks.{CARRIED-WORDS, Closed, carriedWords, channelLaid, modeLaid, timedActor};
 
 // A mode's own numbers, with what is planned of them.
 fn put_head(head: Head, part: ModePlan, words: &mut [u64])
@@ -127,11 +128,12 @@ fn put_channel(bytes: &[u8], carried: &[u64], words: &mut [u64])
     copy(carried, &mut words[CHANNEL_BYTES..CHANNEL_WORDS]);
 }
 
-fn put_channels(channels: &[u8], carried: &[u64], words: &mut [u64])
-    requires { ⌜ (length (now channels) ≡ CHANNELS-BYTES) × (length (now carried) ≡ CARRIED-WORDS) × (length (now words) ≡ CHANNEL-WORDS * CHANNELS-LIMIT) ⌝ }
-    ensures { λ _. ⌜ now (words .exit) ≡ joined CHANNELS-LIMIT (channelLaid (now (channels .entry)) (now (carried .entry))) ⌝ }
+// The first so many channels.
+fn put_channels(count: usize, channels: &[u8], carried: &[u64], words: &mut [u64])
+    requires { ⌜ (count ≤ CHANNELS-LIMIT) × (length (now channels) ≡ CHANNELS-BYTES) × (length (now carried) ≡ CARRIED-WORDS) × (length (now words) ≡ CHANNEL-WORDS * count) ⌝ }
+    ensures { λ _. ⌜ now (words .exit) ≡ joined count (channelLaid (now (channels .entry)) (now (carried .entry))) ⌝ }
 {
-    for k in 0..CHANNELS {
+    for k in 0..count {
         let a = CHANNEL_BYTES * k;
         let b = a + CHANNEL_BYTES;
         let c = 2 * k;
@@ -142,13 +144,16 @@ fn put_channels(channels: &[u8], carried: &[u64], words: &mut [u64])
     }
 }
 
-// The words of a mode, from its front, its channels and what is planned of these.
+// The words of a mode, from its front, its channels and what is planned of these; 0 behind its last channel.
 pub fn put_mode(front: &[u64], channels: &[u8], carried: &[u64], words: &mut [u64])
-    requires { ⌜ (length (now front) ≡ FRONT-WORDS) × (length (now channels) ≡ CHANNELS-BYTES) × (length (now carried) ≡ CARRIED-WORDS) × (length (now words) ≡ MODE-WORDS) ⌝ }
+    requires { ⌜ (length (now front) ≡ FRONT-WORDS) × (length (now channels) ≡ CHANNELS-BYTES) × (length (now carried) ≡ CARRIED-WORDS) × (length (now words) ≡ MODE-WORDS) × Closed (now front) (now channels) (now carried) ⌝ }
     ensures { λ _. ⌜ now (words .exit) ≡ modeLaid (now (front .entry)) (now (channels .entry)) (now (carried .entry)) ⌝ }
 {
+    let head = head_of(front);
+    let end = FRONT_WORDS + CHANNEL_WORDS * head.count;
     copy(front, &mut words[0..FRONT_WORDS]);
-    put_channels(channels, carried, &mut words[FRONT_WORDS..MODE_WORDS]);
+    put_channels(head.count, channels, carried, &mut words[FRONT_WORDS..end]);
+    clear(&mut words[end..MODE_WORDS]);
 }
 
 // The words of a change.

@@ -3,9 +3,9 @@ use mathlib.Core.Path.{_≡_, refl, sym, ap, ap₂, subst, _∙_}
 use mathlib.Core.List.{List, [], _++_, append-assoc, append-nil}
 use mathlib.Core.Logic.{_↔_, _⊎_, inl, inr}
 use Prim.Native.Nat.{ℕ, zero, suc, _+_, _-_, _*_, _≤_, _<_}
-use native.Mathlib.Nat.{mul-zero, mul-suc, mul-le-mul-left, le-of-eq, le-of-suc-le-suc, not-suc-le-zero, eq-or-lt-of-le}
+use native.Mathlib.Nat.{add-zero, add-suc, mul-zero, mul-suc, mul-le-mul-left, le-of-eq, le-of-suc-le-suc, not-suc-le-zero, eq-or-lt-of-le}
 use native.Mathlib.Omega.{arith}
-use lib.ListN.{length, getD, take, drop, length-append, length-take, length-drop, drop-of-length-le}
+use lib.ListN.{length, getD, take, drop, length-append, length-take, length-drop, drop-of-length-le, replicate, replicate-append-replicate}
 use lib.Seq.{getD-take, getD-drop, take-at, drop-at, take-all, take-append-le, drop-append-le, take-append-add, drop-append-add, take-add, sets, sets-eq}
 use borrow.Rule.Slice.PartMut.{putMid}
 use Rattle.numbers.specs.Tab.{is-tab, stretchOf}
@@ -133,6 +133,20 @@ stretch-is a e k l w h =
     ap (λ (n : ℕ). take n (drop a l)) wide
     ∙ is-tab k (λ j. getD l (a + j) 0) (take k (drop a l)) 0 (length-take k (drop a l) ∙ simp length-drop (omega arith)) (λ j b. getD-take k (drop a l) j 0 b ∙ getD-drop a l j 0)
 
+-- so is part i of n
+pub part-stretch : (k n i : ℕ) (l : List ℕ) → length l ≡ k * n → i < n → take (k * i + k - k * i) (drop (k * i) l) ≡ stretchOf (k * i) k l
+part-stretch k n i l e h = stretch-is (k * i) (k * i + k) k l refl (omega (arith, mul-le-mul-left k h, mul-suc k i))
+
 -- and of lists that are joined it is one of them
 pub stretch-joined : (k n i : ℕ) (f : ℕ → List ℕ) → ((j : ℕ) → length (f j) ≡ k) → i < n → stretchOf (k * i) k (joined n f) ≡ f i
 stretch-joined k n i f each h = sym (is-tab k (λ j. getD (joined n f) (k * i + j) 0) (f i) 0 (each i) (λ j b. sym (getD-joined k f each n i j 0 h b)))
+
+-- lists that are joined, of which those from m on are all 0
+pub joined-zeros : (k m d : ℕ) (f : ℕ → List ℕ) → ((i : ℕ) → m ≤ i → i < m + d → f i ≡ replicate k 0) → joined (m + d) f ≡ joined m f ++ replicate (k * d) 0
+unfolding joined
+joined-zeros k m zero f h = rw (add-zero m, mul-zero k) (sym (append-nil (joined m f)))
+joined-zeros k m (suc d) f h =
+    ap (λ (n : ℕ). joined n f) (add-suc m d)
+    ∙ ap₂ _++_ (joined-zeros k m d f (λ i a b. h i a (omega arith))) (h (m + d) (omega arith) (omega arith))
+    ∙ append-assoc (joined m f) (replicate (k * d) 0) (replicate k 0)
+    ∙ ap (λ (l : List ℕ). joined m f ++ l) (replicate-append-replicate (k * d) k 0 ∙ ap (λ (n : ℕ). replicate {A = ℕ} n 0) (sym (mul-suc k d)))

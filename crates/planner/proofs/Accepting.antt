@@ -1,20 +1,20 @@
 -- A text that is read into memory, and what its table leaves. Assumes nothing.
-use mathlib.Core.Path.{_≡_, refl, sym, ap, ap₂, subst, _∙_}
+use mathlib.Core.Path.{_≡_, refl, sym, ap, ap₂, subst, transport, _∙_}
 use mathlib.Core.List.{List, [], _++_}
-use Prim.Native.Nat.{ℕ, _*_}
+use Prim.Native.Nat.{ℕ, _*_, _<_}
 use borrow.Rule.Slice.PartMut.{putMid}
 use lib.ListN.{length, length-append, getD, take, drop, length-drop, replicate}
 use lib.Seq.{take-at}
 use native.Mathlib.Omega.{arith}
 use Rattle.numbers.specs.Joined.{joined, joined-same}
-use Rattle.numbers.specs.Tab.{tab}
+use Rattle.numbers.specs.Tab.{tab, stretchOf}
 use Rattle.numbers.proofs.Laid.{stretch-joined}
 use Rattle.units.specs.Limits.{MODES, CHANNELS}
 use Rattle.terms.specs.declared.refusal.Refusal.{Refusal}
 use Rattle.tables.specs.declared.Mode.{Mode}
 use Rattle.tables.specs.declared.Table.{Table}
 use Rattle.tables.specs.Shape.{modeAt, channelAt}
-use Rattle.tables.specs.Proper.{ProperTable}
+use Rattle.tables.specs.Proper.{ProperMode, ProperTable}
 use Rattle.tables.specs.Memory.{FRONT-WORDS, CHANNEL-BYTES, CHANNELS-BYTES, channelBytes, channelsOf, tableIn, tableChannels}
 use Rattle.tables.proofs.Remembered.{length-channels, table-in}
 use Rattle.reader.specs.declared.Answer.{Answer as ReadAnswer}
@@ -24,39 +24,61 @@ use Rattle.reader.proofs.Again.{reads-proper}
 use Rattle.planning.specs.declared.ModePlan.{ModePlan}
 use Rattle.planning.specs.declared.Answer.{Answer as PlanningAnswer}
 use Rattle.planning.specs.declared.Answer.the-variants.{Planned as IsPlanned, Refused as NotPlanned}
-use Rattle.planning.specs.Shape.{Plan}
 use Rattle.planning.specs.Nothing.{noPart}
-use Rattle.planning.specs.Plan.{partAt, Planning, refused}
-use Rattle.planning.specs.Steps.{FoundParts, Refusing}
-use Rattle.layout.specs.Words.{MODE-WORDS, WORDS, plannedFront, modeWords, modesWords, wordsOf}
-use Rattle.layout.specs.Blocks.{CARRIED-WORDS, carriedAt, carriedWords, modeLaid}
+use Rattle.planning.specs.Plan.{IsPart, refused}
+use Rattle.planning.specs.Steps.{AnyComes, Refusing}
+use Rattle.layout.specs.Words.{WORDS, plannedFront, modeWords, modesWords}
+use Rattle.layout.specs.Blocks.{CARRIED-WORDS, carriedAt, carriedWords, channelLaid, modeLaid}
 use Rattle.layout.specs.Laws.{length-planned, length-modes}
+use Rattle.layout.proofs.Laying.{ended-closed}
 use Rattle.planner.specs.declared.Answer.the-variants.{Accepted, Refused}
 use Rattle.planner.specs.Plans.{Reads, Plans, not-planned, accepted}
 use Rattle.planner.specs.Held.{HeldModes}
-use Rattle.planner.specs.Modes.{Fresh, ModesCome, laidAt, plannedFronts, allCarried}
+use Rattle.planner.specs.Modes.{Fresh, ModesCome, laidAt, plannedFronts, allCarried, Whole, WholeAt}
 use Rattle.planner.specs.Changes.{MODES-WORDS, Runs, ChangesPut}
 use Rattle.planner.proofs.Answering.{told-read}
+use Rattle.planner.proofs.Blank.{part-ended, unlisted-words}
 use Rattle.planner.proofs.Coming.{length-carried}
-use Rattle.planner.proofs.Holding.{held-runs, held-planned, held-words, modes-graph, modes-held}
+use Rattle.planner.proofs.Holding.{held-runs, held-planned, held-words, comes-part, modes-graph, modes-held}
 
 -- the words of a mode, laid from its memory with what is planned of it
-mode-from : (m : Mode) (p : ModePlan) → modeLaid (plannedFront m p) (channelsOf m) (carriedWords p) ≡ modeWords m p
-unfolding modeWords tab
-mode-from m p =
-    ap (λ (l : List ℕ). plannedFront m p ++ l)
-    (joined-same CHANNELS _ _
-    (λ k h. ap₂ _++_ (stretch-joined CHANNEL-BYTES CHANNELS k (λ k. channelBytes (channelAt m k)) (λ j. refl) h) (stretch-joined 2 CHANNELS k (carriedAt p) (λ j. refl) h)))
+module _ (m : Mode) (p : ModePlan) where
+  channel-from : (k : ℕ) → k < CHANNELS → channelLaid (channelsOf m) (carriedWords p) k ≡ channelBytes (channelAt m k) ++ carriedAt p k
+  unfolding tab
+  channel-from k h = ap₂ _++_ (stretch-joined CHANNEL-BYTES CHANNELS k (λ k. channelBytes (channelAt m k)) (λ j. refl) h) (stretch-joined 2 CHANNELS k (carriedAt p) (λ j. refl) h)
+
+  mode-from : modeLaid (plannedFront m p) (channelsOf m) (carriedWords p) ≡ modeWords m p
+  unfolding modeWords
+  mode-from = ap (λ (l : List ℕ). plannedFront m p ++ l) (joined-same CHANNELS _ _ channel-from)
+
+  mode-whole : ProperMode m → AnyComes m 1 IsPlanned p → Whole (plannedFront m p) (channelsOf m) (carriedWords p)
+  mode-whole proper comes =
+      record {
+        closed = ended-closed m p _ _ _ (part-ended m p 1 proper comes) refl channel-from;
+        unlisted = λ e. mode-from ∙ unlisted-words m p 1 proper comes e;
+      }
 
 -- and those of all modes
-modes-from : (t : Table) (ps : List ModePlan) → joined MODES (laidAt (plannedFronts t ps) (tableChannels t) (allCarried ps)) ≡ modesWords t (record { parts = ps; changes = [] })
-modes-from t ps =
-    joined-same MODES _ _
-    (λ m h.
-    let f = stretch-joined FRONT-WORDS MODES m (λ m. plannedFront (modeAt t m) (getD ps m noPart)) (λ m. length-planned (modeAt t m) (getD ps m noPart)) h in
-    let l = stretch-joined CHANNELS-BYTES MODES m (λ m. channelsOf (modeAt t m)) (λ m. length-channels (modeAt t m)) h in
-    let c = stretch-joined CARRIED-WORDS MODES m (λ m. carriedWords (getD ps m noPart)) (λ m. length-carried (getD ps m noPart)) h in
-    (λ i. modeLaid (f i) (l i) (c i)) ∙ mode-from (modeAt t m) (getD ps m noPart))
+module _ (t : Table) (ps : List ModePlan) where
+  abbrev p : ℕ → ModePlan
+  p m = getD ps m noPart
+
+  module _ (m : ℕ) (h : m < MODES) where
+    front-at : stretchOf (FRONT-WORDS * m) FRONT-WORDS (plannedFronts t ps) ≡ plannedFront (modeAt t m) (p m)
+    front-at = stretch-joined FRONT-WORDS MODES m (λ m. plannedFront (modeAt t m) (p m)) (λ m. length-planned (modeAt t m) (p m)) h
+
+    channels-at : stretchOf (CHANNELS-BYTES * m) CHANNELS-BYTES (tableChannels t) ≡ channelsOf (modeAt t m)
+    channels-at = stretch-joined CHANNELS-BYTES MODES m (λ m. channelsOf (modeAt t m)) (λ m. length-channels (modeAt t m)) h
+
+    carried-at : stretchOf (CARRIED-WORDS * m) CARRIED-WORDS (allCarried ps) ≡ carriedWords (p m)
+    carried-at = stretch-joined CARRIED-WORDS MODES m (λ m. carriedWords (p m)) (λ m. length-carried (p m)) h
+
+    whole-from : ProperTable t → IsPart t m (p m) → WholeAt (plannedFronts t ps) (tableChannels t) (allCarried ps) m
+    whole-from proper is =
+        transport (λ i. Whole (sym front-at i) (sym channels-at i) (sym carried-at i)) (mode-whole (modeAt t m) (p m) (proper .mode m h) (comes-part t proper m h (p m) is))
+
+  modes-from : joined MODES (laidAt (plannedFronts t ps) (tableChannels t) (allCarried ps)) ≡ modesWords t (record { parts = ps; changes = [] })
+  modes-from = joined-same MODES _ _ (λ m h. (λ i. modeLaid (front-at m h i) (channels-at m h i) (carried-at m h i)) ∙ mode-from (modeAt t m) (p m))
 
 -- a text that is read into memory
 module _ {text fronts channels : List ℕ} {a : ReadAnswer} (into : ReadInto text a fronts channels) (read : a ≡ Read) where
@@ -97,6 +119,9 @@ module _ {text fronts channels : List ℕ} {a : ReadAnswer} (into : ReadInto tex
 
       modes-long : length modes ≡ MODES-WORDS
       modes-long = length-modes t (record { parts = all .0; changes = [] })
+
+      pub memory-whole : (m : ℕ) → m < MODES → WholeAt planned channels carried m
+      memory-whole m h = transport (λ i. WholeAt (sym (all .2) i) (sym (into .channels-are) i) (sym (all .3) i) m) (whole-from t (all .0) m h proper (all .1 .each m h))
 
       -- the words of its modes are put at the front
       module _ (l : List ℕ) (put : l ≡ joined MODES (laidAt planned channels carried)) where

@@ -1,18 +1,21 @@
 -- Words of a mode that is not listed, and of one that is. Assumes nothing.
 use mathlib.Core.Path.{_≡_, refl, sym, ap, ap₂, subst, _∙_}
 use mathlib.Core.Bool.{Bool}
-use mathlib.Core.List.{List}
-use Prim.Native.Nat.{ℕ, zero, suc, _-_, _%_, _^_, _<_}
+use mathlib.Core.List.{List, [], _∷_}
+use Prim.Native.Nat.{ℕ, zero, suc, _-_, _%_, _^_, _≤_, _<_}
 use native.Mathlib.Decide.{ℕ-discrete}
 use native.Mathlib.Omega.{arith}
+use borrow.Author.Tests.{le-ltb}
 use lib.ListN.{length, getD, take, drop, length-drop, replicate, length-replicate, getD-replicate}
 use lib.Seq.{ext-getD, getD-take, take-all}
 use Rattle.numbers.specs.Bits.{Has, bit, bit-zero}
 use Rattle.numbers.specs.Decides.{Decides}
 use Rattle.numbers.specs.Joined.{joined}
-use Rattle.numbers.specs.Tab.{tab, getD-replicated}
+use Rattle.numbers.specs.Tab.{tab, getD-tab, getD-replicated}
 use Rattle.units.specs.Limits.{ACTORS, CHANNELS}
+use Rattle.units.specs.declared.Token.{Token}
 use Rattle.units.specs.Ticks.{tick}
+use Rattle.units.specs.Tokens.{token}
 use Rattle.terms.specs.declared.refusal.Refusal.{Refusal}
 use Rattle.tables.specs.declared.Mode.{Mode}
 use Rattle.tables.specs.Shape.{noActor, noChannel, emptyChannel, emptyMode}
@@ -32,6 +35,7 @@ use Rattle.planning.proofs.Bounds.{SmallPart, mode-small, empty-small}
 use Rattle.planning.proofs.Running.{startup-sink}
 use Rattle.planning.proofs.Unique.{part-unique, planned-refused}
 use Rattle.layout.specs.Words.{MODE-WORDS, headWith, plannedFront, modeWords}
+use Rattle.layout.specs.Blocks.{Ended}
 use Rattle.layout.specs.Read.{bytesIn, modeOf, partOf}
 use Rattle.layout.specs.Laws.{mode-back}
 use Rattle.layout.proofs.Planned.{part-back}
@@ -65,6 +69,28 @@ no-mode m proper e =
 planned-listed : (m : Mode) (p : ModePlan) → ModePlanned m p → m .active ≡ 0 → ⊥
 planned-listed m p w e = nobody m _ e (w .balanced .ends .0 .0 .1)
 
+-- behind the last channel of a proper mode there is none, and nothing is planned
+module _ (m : Mode) (p : ModePlan) (proper : ProperMode m) where
+  ended : ((k : ℕ) → k < CHANNELS → m .count ≤ k → (getD (p .sizes) k (token 0) ≡ token 0) × (getD (p .tokens) k (token 0) ≡ token 0)) → Ended m p
+  ended none =
+      record {
+        count = proper .count;
+        no-channel = proper .no-channel;
+        none-carried = λ k h b i. none k h b .0 i .0 ∷ none k h b .1 i .0 ∷ [];
+      }
+
+  pub planned-ended : ModePlanned m p → Ended m p
+  planned-ended w =
+      ended (λ k h b. (
+        w .sizes .no-size k h b,
+        ap (λ (l : List Token). getD l k (token 0)) (w .tokens) ∙ getD-tab CHANNELS _ k (token 0) h ∙ rw (le-ltb k (m .count) b),
+      ))
+
+  pub unplanned-ended : p ≡ emptyPart → Ended m p
+  unplanned-ended e =
+      let none : (k : ℕ) → getD (replicate CHANNELS (token 0)) k (token 0) ≡ token 0 = λ k. getD-replicated CHANNELS k (token 0) in
+      ended (λ k h b. rw e (none k, none k))
+
 -- a proper mode with what is planned of it, or with nothing where it is not listed
 module _ (m : Mode) (p : ModePlan) (n : ℕ) (proper : ProperMode m) (comes : AnyComes m n IsPlanned p) where
   pub part-sound : SmallPart p × (p .startup ≡ getD (p .starts) (p .sink) (tick 0))
@@ -73,6 +99,17 @@ module _ (m : Mode) (p : ModePlan) (n : ℕ) (proper : ProperMode m) (comes : An
       go : Dec (m .active ≡ 0) → SmallPart p × (p .startup ≡ getD (p .starts) (p .sink) (tick 0))
       go (yes e) = rw (comes .1 e) (empty-small, refl)
       go (no h) = (mode-small m p proper (comes .0 h), startup-sink m proper p (comes .0 h))
+
+  pub part-ended : Ended m p
+  part-ended = go (ℕ-discrete (m .active) 0)
+    where
+      go : Dec (m .active ≡ 0) → Ended m p
+      go (yes e) = unplanned-ended m p proper (comes .1 e)
+      go (no h) = planned-ended m p proper (comes .0 h)
+
+  -- all its words are 0 where it is not listed
+  pub unlisted-words : m .active ≡ 0 → modeWords m p ≡ replicate MODE-WORDS 0
+  unlisted-words e = ap₂ modeWords (no-mode m proper e) (comes .1 e) ∙ empty-words
 
   pub words-held : Held (modeWords m p)
   words-held =

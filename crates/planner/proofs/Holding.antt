@@ -164,6 +164,10 @@ module _ (words : List ℕ) where
       pub below-home : HeldModes words → Below (AtHome homes (tab ACTORS (actorIn front))) ACTORS
       below-home p = subst (λ (l : List Actor). Below (AtHome homes l) ACTORS) (sym actors-at) (at-home-all (graphOf words) m homes (below .0) mode-proper h (p .proper))
 
+-- what is planned of a mode of a table comes of it
+pub comes-part : (t : Table) → ProperTable t → (k : ℕ) → k < MODES → (p : ModePlan) → IsPart t k p → AnyComes (modeAt t k) 1 IsPlanned p
+comes-part t proper k h p is = ((λ n. is .listed (listed-some t k proper h n)), (λ e. is .unlisted (λ x. listed-none t k x e)))
+
 -- the words of a planned table hold its modes
 module _ (t : Table) (w : Plan) (proper : ProperTable t) where
   pub modes-first : take MODES-WORDS (wordsOf t w) ≡ modesWords t w
@@ -178,8 +182,7 @@ module _ (t : Table) (w : Plan) (proper : ProperTable t) where
       record {
         proper = subst ProperTable (sym modes-graph) proper;
         mode = λ k h. subst Held (sym (joined-part MODE-WORDS (modeWordsAt t w) (length-mode-at t w) MODES k h))
-            (words-held (modeAt t k) (partAt w k) 1 (proper .mode k h)
-            ((λ n. is k h .listed (listed-some t k proper h n)), (λ e. is k h .unlisted (λ x. listed-none t k x e))));
+            (words-held (modeAt t k) (partAt w k) 1 (proper .mode k h) (comes-part t proper k h (partAt w k) (is k h)));
       }
 
 -- words that some accepted table leaves, by what stands there

@@ -17,8 +17,8 @@ use Rattle.planning.specs.declared.Answer.the-variants.{Planned as IsPlanned, R
 use Rattle.planning.specs.Nothing.{noPart}
 use Rattle.planning.specs.Plan.{ModeRefused}
 use Rattle.planning.specs.Steps.{AnyComes, FoundParts, Refusing}
-use Rattle.layout.specs.Words.{plannedFront}
-use Rattle.layout.specs.Blocks.{CARRIED-WORDS, carriedWords, modeLaid}
+use Rattle.layout.specs.Words.{MODE-WORDS, plannedFront}
+use Rattle.layout.specs.Blocks.{CARRIED-WORDS, carriedWords, modeLaid, Closed}
 
 -- the memory of mode m, of which nothing is planned yet
 pub record FreshMode (m : Mode) (front channels carried : List ℕ) : Type 0 where
@@ -55,3 +55,13 @@ ModesCome t (IsRefused r) fronts carried = Refusing t r
 abbrev pub laidAt : List ℕ → List ℕ → List ℕ → ℕ → List ℕ
 laidAt fronts channels carried m =
     modeLaid (stretchOf (FRONT-WORDS * m) FRONT-WORDS fronts) (stretchOf (CHANNELS-BYTES * m) CHANNELS-BYTES channels) (stretchOf (CARRIED-WORDS * m) CARRIED-WORDS carried)
+
+-- the memory of a mode that is planned: nothing stands behind its last channel, and nothing at all where it is not listed
+pub record Whole (front channels carried : List ℕ) : Type 0 where
+  pub closed : Closed front channels carried
+  pub unlisted : getD front 0 0 ≡ 0 → modeLaid front channels carried ≡ replicate MODE-WORDS 0
+
+-- that of mode m
+abbrev pub WholeAt : List ℕ → List ℕ → List ℕ → ℕ → Type 0
+WholeAt fronts channels carried m =
+    Whole (stretchOf (FRONT-WORDS * m) FRONT-WORDS fronts) (stretchOf (CHANNELS-BYTES * m) CHANNELS-BYTES channels) (stretchOf (CARRIED-WORDS * m) CARRIED-WORDS carried)

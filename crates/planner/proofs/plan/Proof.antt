@@ -6,7 +6,7 @@ use Rattle.terms.specs.declared.refusal.Refusal.{Refusal}
 use Rattle.planner.specs.declared.Answer.the-variants.{Refused}
 use Rattle.planner.specs.Plans.{Plans, wrong-length, not-read}
 use Rattle.planner.proofs.Answering.{told-refused}
-use Rattle.planner.proofs.Accepting.{memory-fresh, memory-refused, memory-long, memory-runs, memory-accepted}
+use Rattle.planner.proofs.Accepting.{memory-fresh, memory-refused, memory-whole, memory-long, memory-runs, memory-accepted}
 use Rattle.planner.proofs.plan.Statement.{statement}
 use Rattle.planner.proofs.plan.Tie as tie
 
@@ -31,6 +31,19 @@ unplanned c =
     let e = p .before .before .before .before in
     let r = e .before .before .before .before in
     memory-refused (r .read .ensures) (e .enum-told .given .1) (p .plan-modes .result) _ _ (p .plan-modes .ensures) _ (r .before .before .before .if1 .left) _ (c .before .planned .given .1)
+
+put-modes-requires : tie.Need-put-modes-requires
+put-modes-requires c κs =
+    let g = c .before .before .before .before in
+    let p = g .before .before .before .before in
+    let e = p .before .before .before .before in
+    let r = e .before .before .before .before in (
+      search needs,
+      search needs,
+      search needs,
+      search needs,
+      memory-whole (r .read .ensures) (e .enum-told .given .1) (p .plan-modes .result) _ _ (p .plan-modes .ensures) (now (r .before .before .before .before .before .before .args .words)) (r .before .before .before .if1 .left) (g .enum-told2 .given .1),
+    )
 
 all-works-requires : tie.Need-all-works-requires
 all-works-requires c κs =
@@ -89,7 +102,7 @@ plan-spec =
     (λ c. search needs)
     (λ c. search needs)
     (λ c. search needs)
-    (λ c κs. search needs)
+    put-modes-requires
     (λ c. search needs)
     (λ c. search needs)
     (λ c. search needs)

@@ -2,10 +2,10 @@
 use borrow.Author.Needs.{needs}
 use mathlib.Core.Path.{_≡_, ap₂, _∙_}
 use mathlib.Core.List.{_++_}
-use Prim.Native.Nat.{_≤_, _-_, _*_, _+_}
+use Prim.Native.Nat.{_≤_, _-_}
 use native.Mathlib.Omega.{arith}
 use lib.ListN.{length-take, length-drop}
-use Rattle.numbers.proofs.Laid.{Begun, begun-none, begun-put, begun-all, stretch-is}
+use Rattle.numbers.proofs.Laid.{Begun, begun-none, begun-put, begun-all, part-stretch}
 use Rattle.units.specs.Limits.{CHANNELS}
 use Rattle.tables.specs.Memory.{CHANNEL-BYTES}
 use Rattle.layout.specs.Words.{CHANNEL-WORDS}
@@ -15,15 +15,15 @@ use Rattle.layout.proofs.store.put_channels.Statement.{statement}
 use Rattle.layout.proofs.store.put_channels.Tie as tie
 
 abbrev Inv-loop : tie.InvT-loop
-Inv-loop channels carried words₀ k₀ words k = (k ≤ CHANNELS) × Begun CHANNEL-WORDS (channelLaid channels carried) CHANNELS words k
+Inv-loop count channels carried words₀ k₀ words k = (k ≤ count) × Begun CHANNEL-WORDS (channelLaid channels carried) count words k
 
 abbrev μ-loop : tie.MeasureT-loop
-μ-loop channels carried words₀ k₀ words k = CHANNELS - k
+μ-loop count channels carried words₀ k₀ words k = count - k
 
 loop-holds : tie.Need-loop-holds Inv-loop μ-loop
 loop-holds c =
     let s = c .before .before .before in
-    (omega arith, begun-none CHANNEL-WORDS _ (length-channel-laid (s .args .channels .now) (s .args .carried .now)) CHANNELS _ (s .pre .2))
+    (omega arith, begun-none CHANNEL-WORDS _ (length-channel-laid (s .args .channels .now) (s .args .carried .now)) (s .args .count) _ (s .pre .3))
 
 loop-again : tie.Need-loop-again Inv-loop μ-loop
 loop-again c =
@@ -31,13 +31,13 @@ loop-again c =
     let s = c .before .before .before .before .before .before .before .before .before .before .before in
     let k = l .k in
     let laid = c .before .before .put-channel .ensures
-    ∙ ap₂ _++_ (stretch-is (CHANNEL-BYTES * k) (CHANNEL-BYTES * k + CHANNEL-BYTES) CHANNEL-BYTES (s .args .channels .now) (omega arith) (omega arith)) (stretch-is (2 * k) (2 * k + 2) 2 (s .args .carried .now) (omega arith) (omega arith)) in
-    (omega arith, begun-put CHANNEL-WORDS _ (length-channel-laid (s .args .channels .now) (s .args .carried .now)) CHANNELS _ _ k (omega arith) laid (l .inv .1))
+    ∙ ap₂ _++_ (part-stretch CHANNEL-BYTES CHANNELS k (s .args .channels .now) (s .pre .1) (omega arith)) (part-stretch 2 CHANNELS k (s .args .carried .now) (s .pre .2) (omega arith)) in
+    (omega arith, begun-put CHANNEL-WORDS _ (length-channel-laid (s .args .channels .now) (s .args .carried .now)) (s .args .count) _ _ k (omega arith) laid (l .inv .1))
 
 returns : tie.Need-returns Inv-loop μ-loop
 returns c =
     let s = c .before .before .before .before .before in
-    begun-all CHANNEL-WORDS _ (length-channel-laid (s .args .channels .now) (s .args .carried .now)) CHANNELS _ _ (omega arith) (c .before .loop .inv .1)
+    begun-all CHANNEL-WORDS _ (length-channel-laid (s .args .channels .now) (s .args .carried .now)) (s .args .count) _ _ (omega arith) (c .before .loop .inv .1)
 
 pub put-channels-spec : {M : Type 1} → statement M
 put-channels-spec =

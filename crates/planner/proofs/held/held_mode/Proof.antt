@@ -12,8 +12,9 @@ use Rattle.tables.specs.Proper.{ProperMode}
 use Rattle.tables.specs.Memory.{FRONT-WORDS, modeIn}
 use Rattle.planning.specs.declared.Answer.{Answer}
 use Rattle.planning.specs.OneMode.{Comes}
+use Rattle.planning.specs.Plan.{ModePlanned}
 use Rattle.layout.specs.Read.{modeOf}
-use Rattle.planner.proofs.Blank.{mode-read, blank-decides, held-proper, held-unrefused, listed-decides}
+use Rattle.planner.proofs.Blank.{planned-ended, mode-read, blank-decides, held-proper, held-unrefused, listed-decides}
 use Rattle.planner.proofs.held.held_mode.Statement.{statement}
 use Rattle.planner.proofs.held.held_mode.Tie as tie
 
@@ -57,12 +58,25 @@ returns-3 c =
     decides-no (held-unrefused (words r) (some r) (mode r) (is r)
     (subst (λ (a : Answer). Comes (mode r) 1 a (p .plan-mode .result .part)) (c .before .answer .given .1) (p .plan-mode .ensures) .0))
 
+-- what is planned of it
+planned : (c : tie.After-enum-told) → let p = c .before .before in ModePlanned (mode (p .before .before .before .before .before .before .before .before)) (p .plan-mode .result .part)
+planned c =
+    let p = c .before .before in
+    let r = p .before .before .before .before .before .before .before .before in
+    subst (λ (a : Answer). Comes (mode r) 1 a (p .plan-mode .result .part)) (c .enum-told .given .1) (p .plan-mode .ensures)
+
+mode-holds-requires : tie.Need-mode-holds-requires
+mode-holds-requires c κs =
+    let t = c .before .before in
+    let r = t .before .before .before .before .before .before .before .before .before .before in
+    (start r .pre, search needs, planned-ended _ _ (proper (t .before .before .before .before .before)) (planned t))
+
 returns-4 : tie.Need-returns-4
 returns-4 c =
-    let p = c .before .before .before .before .before in
+    let t = c .before .before .before in
+    let p = t .before .before in
     let r = p .before .before .before .before .before .before .before .before in
-    let planned = subst (λ (a : Answer). Comes (mode r) 1 a (p .plan-mode .result .part)) (c .before .before .before .enum-told .given .1) (p .plan-mode .ensures) in
-    listed-decides (words r) (some r) (mode r) (is r) (p .plan-mode .result .part) (c .mode-holds .result) (proper (p .before .before .before)) planned (c .mode-holds .ensures)
+    listed-decides (words r) (some r) (mode r) (is r) (p .plan-mode .result .part) (c .mode-holds .result) (proper (p .before .before .before)) (planned t) (c .mode-holds .ensures)
 
 pub held-mode-spec : {M : Type 1} → statement M
 held-mode-spec =
@@ -91,5 +105,5 @@ held-mode-spec =
     returns-3
     (λ c. search needs)
     (λ c. search needs)
-    (λ c κs. search needs)
+    mode-holds-requires
     returns-4)
