@@ -3,16 +3,19 @@ use mathlib.Core.Path.{_≡_, refl, sym, ap, ap₂, subst, subst₂, _∙_}
 use mathlib.Core.Bool.{Bool, true, false, _||_}
 use mathlib.Core.List.{List, _++_, append-assoc, append-nil}
 use Prim.Native.Nat.{ℕ, _+_, _-_, _*_, _/_, _%_, _<_}
+use native.Mathlib.Decide.{ℕ-discrete}
+use native.Mathlib.Nat.{not-suc-le-zero}
 use native.Mathlib.Omega.{arith}
-use borrow.Author.Tests.{eqb-false, ne-eqb}
+use borrow.Author.Count.{below-more}
+use borrow.Author.Tests.{eqb-false, eq-eqb, ne-eqb}
 use borrow.Rule.Slice.PartMut.{putMid}
 use lib.Dec.{T, eqb}
 use lib.ListN.{length, getD, take, drop, length-append, length-take, length-drop}
 use lib.Seq.{length-take-le, take-at, drop-at, take-take, drop-drop}
 use Rattle.numbers.specs.Decides.{decides-yes, decides-no}
-use Rattle.numbers.specs.Joined.{joined, stretch, part, joined-next, length-joined, joined-part}
-use Rattle.numbers.specs.Tab.{length-tab, getD-tab}
-use Rattle.numbers.proofs.Laid.{Laid, laid-none, laid-put, laid-same, laid-all}
+use Rattle.numbers.specs.Joined.{joined, stretch, part, joined-same, joined-next, length-joined, joined-part}
+use Rattle.numbers.specs.Tab.{length-tab, getD-tab, placing, placing-there, placing-aside}
+use Rattle.numbers.proofs.Laid.{Laid, laid-none, laid-put, laid-same, laid-all, Begun, begun-none, begun-put, begun-all}
 use Rattle.units.specs.Limits.{MODES, ACTORS}
 use Rattle.tables.specs.declared.memory.Head.{Head}
 use Rattle.tables.specs.Memory.{FRONT-WORDS, headIn}
@@ -25,7 +28,7 @@ use Rattle.planning.specs.Changes.{noRunning, runningAt, Between, ChangeOf, Fou
 use Rattle.planning.proofs.Reckoned.{changesOf, changes-found}
 use Rattle.planning.proofs.Unique.{between-unique}
 use Rattle.layout.specs.Words.{CHANGES, MODE-WORDS, CHANGE-WORDS, WORDS, changeWords, changeWordsAt, changesWords}
-use Rattle.planner.specs.Changes.{MODES-WORDS, frontAt, runningsIn, worksIn, Runs, ChangesPut, ChangesHeld}
+use Rattle.planner.specs.Changes.{MODES-WORDS, frontAt, runningsIn, Worked, Runs, ChangesPut, ChangesHeld}
 
 pub length-works : (f : List ℕ) → length (worksWords f) ≡ WORKS-WORDS
 length-works f = length-joined WORK-WORDS (λ i. workWords (getD (runningIn f .works) i noWorks)) (λ i. refl) ACTORS
@@ -51,21 +54,57 @@ module _ (words : List ℕ) where
   works-each : (m : ℕ) → length (worksWords (frontAt words m)) ≡ WORKS-WORDS
   works-each m = length-works (frontAt words m)
 
-  pub works-long : (works : List ℕ) → works ≡ worksIn words → length works ≡ WORKS-WORDS * MODES
-  works-long works e = ap length e ∙ length-joined WORKS-WORDS (λ m. worksWords (frontAt words m)) works-each MODES
+  -- the works of the modes below m, whatever stands for those that are not listed
+  pub record Working (works : List ℕ) (m : ℕ) : Type 0 where
+    pub blocks : ℕ → List ℕ
+    pub wide : (j : ℕ) → length (blocks j) ≡ WORKS-WORDS
+    pub right : (j : ℕ) → j < m → (headIn (frontAt words j) .active ≡ 0 → ⊥) → blocks j ≡ worksWords (frontAt words j)
+    pub laid : Begun WORKS-WORDS blocks MODES works m
+
+  pub working-none : (works : List ℕ) → length works ≡ WORKS-WORDS * MODES → Working works 0
+  working-none works e =
+      let blocks : ℕ → List ℕ = λ m. worksWords (frontAt words m) in
+      record { blocks = blocks; wide = works-each; right = λ j h. absurd (not-suc-le-zero h); laid = begun-none WORKS-WORDS blocks works-each MODES works e }
+
+  pub working-next : {f : List ℕ} (works b : List ℕ) (m : ℕ) → m < MODES → f ≡ frontAt words m → length b ≡ WORKS-WORDS → ((headIn f .active ≡ 0 → ⊥) → b ≡ worksWords f) → Working works m
+      → Working (putMid (WORKS-WORDS * m) (WORKS-WORDS * m + WORKS-WORDS - WORKS-WORDS * m) works b) (m + 1)
+  working-next works b m h front long is w =
+      let blocks = placing m b (w .blocks) in
+      let there = placing-there m b (w .blocks) in
+      let aside : (j : ℕ) → (j ≡ m → ⊥) → blocks j ≡ w .blocks j = λ j n. placing-aside m j b (w .blocks) n in
+      let wide : (j : ℕ) → length (blocks j) ≡ WORKS-WORDS = λ j. all-wide j (ℕ-discrete j m) in
+      record {
+        blocks = blocks;
+        wide = wide;
+        right = below-more _ m (λ j l n. aside j (λ e. omega arith) ∙ w .right j l n) (subst (λ (f : List ℕ). (headIn f .active ≡ 0 → ⊥) → blocks m ≡ worksWords f) front (λ n. there ∙ is n));
+        laid = begun-put WORKS-WORDS blocks wide MODES works b m h (sym there)
+            (subst (λ (l : List ℕ). Laid (WORKS-WORDS * MODES) l works) (joined-same m (w .blocks) blocks (λ j l. sym (aside j (λ e. omega arith)))) (w .laid));
+      }
+    where
+      all-wide : (j : ℕ) → Dec (j ≡ m) → length (placing m b (w .blocks) j) ≡ WORKS-WORDS
+      all-wide j (yes e) = rw (eq-eqb j m e) long
+      all-wide j (no n) = ap length (placing-aside m j b (w .blocks) n) ∙ w .wide j
+
+  pub working-all : (works : List ℕ) (m : ℕ) → m ≡ MODES → Working works m → Worked words works
+  working-all works m e w =
+      record {
+        long = w .laid .long;
+        each = λ k h n. ap (part WORKS-WORDS k) (begun-all WORKS-WORDS (w .blocks) (w .wide) MODES works m e (w .laid)) ∙ joined-part WORKS-WORDS (w .blocks) (w .wide) MODES k h ∙ w .right k (omega arith) n;
+      }
 
   module _ (runs : Runs words) (m : ℕ) (within : m < MODES) where
     pub cut-fitting : Fitting (runningIn (frontCut words m))
     cut-fitting = subst (λ (f : List ℕ). Fitting (runningIn f)) (sym (front-cut m)) (runs .fitting m within)
 
-    cut-ready : (works : List ℕ) → works ≡ worksIn words → (headIn (frontCut words m) .active ≡ 0 → ⊥) → ReadyFront (frontCut words m) (cut (WORKS-WORDS * m) WORKS-WORDS works)
+    cut-ready : (works : List ℕ) → Worked words works → (headIn (frontCut words m) .active ≡ 0 → ⊥) → ReadyFront (frontCut words m) (cut (WORKS-WORDS * m) WORKS-WORDS works)
     cut-ready works e listed =
+        let here = subst (λ (f : List ℕ). headIn f .active ≡ 0 → ⊥) (front-cut m) listed in
         subst₂ ReadyFront (sym (front-cut m)) (sym (cut-is (WORKS-WORDS * m) WORKS-WORDS works))
         (record {
           long = length-take FRONT-WORDS (drop (MODE-WORDS * m) words) ∙ simp length-drop (omega (arith, runs .long));
           sink = runs .sink m within;
-          ready = runs .ready m within (subst (λ (f : List ℕ). headIn f .active ≡ 0 → ⊥) (front-cut m) listed);
-          works = ap (part WORKS-WORDS m) e ∙ joined-part WORKS-WORDS (λ m. worksWords (frontAt words m)) works-each MODES m within;
+          ready = runs .ready m within here;
+          works = e .each m within here;
         })
 
 -- there is no change at place n of all pairs, or there is one, by the heads of the two modes
@@ -113,7 +152,7 @@ module _ (words : List ℕ) (n : ℕ) (within : n < CHANGES) where
     pub the-change : (t : Timing) → apart old new n ≡ false → Changes (modeTimes (runningIn oldFront)) (modeTimes (runningIn newFront)) t → ChangeOf (runningsIn words) n t
     the-change t e p = change-cut t ((λ _ _ _. p), (λ f. absurd (f (apart-false (headIn oldFront) (headIn newFront) n (sym same ∙ e)))))
 
-    pub both-ready : Runs words → (works : List ℕ) → works ≡ worksIn words → apart old new n ≡ false
+    pub both-ready : Runs words → (works : List ℕ) → Worked words works → apart old new n ≡ false
         → ReadyFront oldFront (cut (WORKS-WORDS * (n / MODES)) WORKS-WORDS works) × ReadyFront newFront (cut (WORKS-WORDS * (n % MODES)) WORKS-WORDS works)
     both-ready runs works w e =
         let (x, y, _) = apart-false (headIn oldFront) (headIn newFront) n (sym same ∙ e) in

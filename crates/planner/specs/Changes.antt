@@ -5,12 +5,12 @@ use mathlib.Core.List.{List, _++_}
 use Prim.Native.Nat.{ℕ, _*_, _<_}
 use lib.ListN.{length, drop, take}
 use Rattle.numbers.specs.Decides.{Decides}
-use Rattle.numbers.specs.Joined.{joined, stretch}
+use Rattle.numbers.specs.Joined.{stretch, part}
 use Rattle.numbers.specs.Tab.{tab}
 use Rattle.units.specs.Limits.{MODES, ACTORS}
 use Rattle.tables.specs.Memory.{FRONT-WORDS, headIn}
 use Rattle.change.specs.declared.Timing.{Timing}
-use Rattle.change.specs.Work.{Running, Fitting}
+use Rattle.change.specs.Work.{Running, Fitting, WORKS-WORDS}
 use Rattle.change.specs.Running.{runningIn, worksWords, Ready}
 use Rattle.planning.specs.Changes.{FoundChanges}
 use Rattle.layout.specs.Words.{MODE-WORDS, changesWords}
@@ -19,15 +19,17 @@ use Rattle.layout.specs.Words.{MODE-WORDS, changesWords}
 abbrev pub MODES-WORDS : ℕ
 MODES-WORDS = MODE-WORDS * MODES
 
--- the front of mode m; the modes as they run, and their works
+-- the front of mode m, and the modes as they run
 abbrev pub frontAt : List ℕ → ℕ → List ℕ
 frontAt words m = stretch (MODE-WORDS * m) FRONT-WORDS words
 
 abbrev pub runningsIn : List ℕ → List Running
 runningsIn words = tab MODES (λ m. runningIn (frontAt words m))
 
-abbrev pub worksIn : List ℕ → List ℕ
-worksIn words = joined MODES (λ m. worksWords (frontAt words m))
+-- the works of each mode that is listed
+pub record Worked (words works : List ℕ) : Type 0 where
+  pub long : length works ≡ WORKS-WORDS * MODES
+  pub each : (m : ℕ) → m < MODES → (headIn (frontAt words m) .active ≡ 0 → ⊥) → part WORKS-WORDS m works ≡ worksWords (frontAt words m)
 
 -- what can be summed of each mode, and those that are listed are ready for changes
 pub record Runs (words : List ℕ) : Type 0 where

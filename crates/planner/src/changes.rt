@@ -17,11 +17,13 @@ ghost use mathlib.Core.Path.{_≡_};
 ghost use Prim.Native.Nat.{_*_, _<_};
 ghost use lib.ListN.{length, take};
 ghost use Rattle.units.specs.Limits.{MODES as MODES-LIMIT};
-ghost use Rattle.change.specs.Work.{WORKS-WORDS};
+ghost use Rattle.tables.specs.Memory.{FRONT-WORDS, headIn};
+ghost use Rattle.change.specs.Work.{WORKS-WORDS, Fitting};
+ghost use Rattle.change.specs.Running.{runningIn, worksWords};
 ghost use Rattle.planning.specs.Nothing.{noTiming};
 ghost use Rattle.planning.specs.Changes.{ChangeOf};
 ghost use Rattle.layout.specs.Words.{CHANGES as CHANGES-LIMIT, MODE-WORDS, WORDS};
-ghost use Rattle.planner.specs.Changes.{MODES-WORDS, runningsIn, worksIn, Runs, ChangesPut, ChangesHeld};
+ghost use Rattle.planner.specs.Changes.{MODES-WORDS, runningsIn, Worked, Runs, ChangesPut, ChangesHeld};
 
 // No change.
 fn none() -> Timing
@@ -34,23 +36,34 @@ fn none() -> Timing
     }
 }
 
-// The works of all modes.
+// The works of a mode that is listed; those of another stay as they stood.
+fn works_of(front: &[u64], works: &mut [u64])
+    requires { ⌜ (length (now front) ≡ FRONT-WORDS) × (length (now works) ≡ WORKS-WORDS) × Fitting (runningIn (now front)) ⌝ }
+    ensures { λ _. ⌜ (length (now (works .exit)) ≡ WORKS-WORDS) × ((headIn (now (front .entry)) .active ≡ 0 → ⊥) → now (works .exit) ≡ worksWords (now (front .entry))) ⌝ }
+{
+    if front[0] == 0 {
+        return;
+    }
+    put_works(front, works);
+}
+
+// The works of all modes that are listed.
 pub(crate) fn all_works(words: &[u64], works: &mut [u64])
     requires { ⌜ Runs (now words) × (length (now works) ≡ WORKS-WORDS * MODES-LIMIT) ⌝ }
-    ensures { λ _. ⌜ now (works .exit) ≡ worksIn (now (words .entry)) ⌝ }
+    ensures { λ _. ⌜ Worked (now (words .entry)) (now (works .exit)) ⌝ }
 {
     for m in 0..MODES {
         let a = MODE_WORDS * m;
         let b = a + FRONT_WORDS;
         let c = WORKS_WORDS * m;
         let d = c + WORKS_WORDS;
-        put_works(&words[a..b], &mut works[c..d]);
+        works_of(&words[a..b], &mut works[c..d]);
     }
 }
 
 // The change at this place of all pairs of modes; none where one of the two is not listed, or they are the same.
 fn timing_at(words: &[u64], works: &[u64], place: usize) -> Timing
-    requires { ⌜ Runs (now words) × (now works ≡ worksIn (now words)) × (place < CHANGES-LIMIT) ⌝ }
+    requires { ⌜ Runs (now words) × Worked (now words) (now works) × (place < CHANGES-LIMIT) ⌝ }
     ensures { λ r. ⌜ ChangeOf (runningsIn (now (words .entry))) place r ⌝ }
 {
     let k = place / MODES;
@@ -73,7 +86,7 @@ fn timing_at(words: &[u64], works: &[u64], place: usize) -> Timing
 
 // Writes the changes behind the modes.
 pub(crate) fn put_changes(works: &[u64], words: &mut [u64])
-    requires { ⌜ (length (now words) ≡ WORDS) × Runs (take MODES-WORDS (now words)) × (now works ≡ worksIn (take MODES-WORDS (now words))) ⌝ }
+    requires { ⌜ (length (now words) ≡ WORDS) × Runs (take MODES-WORDS (now words)) × Worked (take MODES-WORDS (now words)) (now works) ⌝ }
     ensures { λ _. ⌜ ChangesPut (take MODES-WORDS (now (words .entry))) (now (words .exit)) ⌝ }
 {
     for n in 0..CHANGES {
@@ -86,7 +99,7 @@ pub(crate) fn put_changes(works: &[u64], words: &mut [u64])
 
 // Whether the changes stand behind the modes.
 pub(crate) fn changes_hold(works: &[u64], words: &[u64]) -> bool
-    requires { ⌜ (length (now words) ≡ WORDS) × Runs (take MODES-WORDS (now words)) × (now works ≡ worksIn (take MODES-WORDS (now words))) ⌝ }
+    requires { ⌜ (length (now words) ≡ WORDS) × Runs (take MODES-WORDS (now words)) × Worked (take MODES-WORDS (now words)) (now works) ⌝ }
     ensures { λ r. ⌜ ChangesHeld (now (words .entry)) r ⌝ }
 {
     for n in 0..CHANGES {

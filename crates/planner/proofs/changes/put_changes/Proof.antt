@@ -6,7 +6,7 @@ use native.Mathlib.Omega.{arith}
 use lib.ListN.{take, length-take, length-drop}
 use Rattle.layout.specs.Words.{CHANGES}
 use Rattle.planning.specs.Changes.{ChangeOf}
-use Rattle.planner.specs.Changes.{MODES-WORDS, runningsIn, worksIn, Runs}
+use Rattle.planner.specs.Changes.{MODES-WORDS, runningsIn, Worked, Runs}
 use Rattle.planner.proofs.Timing.{Changed, changed-none, changed-modes, changed-put, changes-put}
 use Rattle.planner.proofs.changes.put_changes.Statement.{statement}
 use Rattle.planner.proofs.changes.put_changes.Tie as tie
@@ -31,7 +31,7 @@ module _ (c : tie.At-loop Inv-loop μ-loop) where
 timing-at-requires : tie.Need-timing-at-requires Inv-loop μ-loop
 timing-at-requires c κs =
     let l = c .before .before .before in
-    (subst Runs (sym (modes-left l)) (start l .pre .1), start l .pre .2 ∙ ap worksIn (sym (modes-left l)), omega arith)
+    (subst Runs (sym (modes-left l)) (start l .pre .1), subst (λ (m : List ℕ). Worked m (start l .args .works .now)) (sym (modes-left l)) (start l .pre .2), omega arith)
 
 loop-again : tie.Need-loop-again Inv-loop μ-loop
 loop-again c =

@@ -7,7 +7,7 @@ use lib.ListN.{length, length-take, length-drop}
 use Rattle.units.specs.Limits.{MODES}
 use Rattle.change.specs.Work.{WORKS-WORDS}
 use Rattle.planner.specs.Changes.{MODES-WORDS}
-use Rattle.planner.proofs.Timing.{works-long, no-change, the-change, both-ready}
+use Rattle.planner.proofs.Timing.{no-change, the-change, both-ready}
 use Rattle.planner.proofs.changes.timing_at.Statement.{statement}
 use Rattle.planner.proofs.changes.timing_at.Tie as tie
 
@@ -26,7 +26,7 @@ module _ (c : tie.After-head-of2) where
   words-length = start .pre .0 .long
 
   works-length : length works ≡ WORKS-WORDS * MODES
-  works-length = works-long words works (start .pre .1)
+  works-length = start .pre .1 .long
 
 returns : tie.Need-returns
 returns c =
