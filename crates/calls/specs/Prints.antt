@@ -6,7 +6,7 @@ use lib.ListN.{replicate}
 use Rattle.units.specs.declared.Tick.{Tick}
 use Rattle.terms.specs.Text.{bytes}
 use Rattle.terms.specs.declared.refusal.Refusal.{Refusal}
-use Rattle.tables.specs.declared.Table.{Table}
+use Rattle.tables.specs.Shape.{Table}
 use Rattle.csv.specs.Decimal.{decimal}
 use Rattle.csv.specs.Writing.{joined}
 use Rattle.planning.specs.Shape.{Plan}

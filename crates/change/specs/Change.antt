@@ -13,8 +13,7 @@ use Rattle.numbers.specs.declared.fraction.Fraction.{Fraction}
 use Rattle.units.specs.Limits.{PROCESSORS, limitOf}
 use Rattle.units.specs.Ticks.{tick}
 use Rattle.units.specs.declared.Tick.{Tick}
-use Rattle.tables.specs.declared.Mode.{Mode}
-use Rattle.tables.specs.Shape.{Active}
+use Rattle.tables.specs.Shape.{Mode, Active}
 use Rattle.graph.specs.Load.{isOn, askedOf}
 use Rattle.change.specs.declared.Timing.{Timing}
 

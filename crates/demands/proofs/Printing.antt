@@ -15,8 +15,7 @@ use Rattle.numbers.specs.Tab.{getD-tab}
 use Rattle.units.specs.Limits.{MODES, ACTORS}
 use Rattle.terms.specs.Place.{numberOf}
 use Rattle.terms.specs.Text.{bytes}
-use Rattle.tables.specs.declared.Table.{Table}
-use Rattle.tables.specs.Shape.{channelAt, modeAt}
+use Rattle.tables.specs.Shape.{Table, channelAt, modeAt}
 use Rattle.planning.specs.Shape.{Plan}
 use Rattle.planning.specs.Plan.{partAt}
 use Rattle.run.specs.Plan.{Acts}

@@ -15,8 +15,7 @@ use Rattle.terms.specs.Place.{numberOf, placeOf}
 use Rattle.terms.specs.Refusal.{noNumbers, numbersOf}
 use Rattle.terms.specs.Text.{bytes}
 use Rattle.terms.specs.declared.refusal.Refusal.{Refusal}
-use Rattle.tables.specs.declared.Table.{Table}
-use Rattle.tables.specs.Shape.{modeAt, emptyTable}
+use Rattle.tables.specs.Shape.{Table, modeAt, emptyTable}
 use Rattle.reader.specs.declared.Answer.the-variants.{Read as IsRead, Refused as NotRead}
 use Rattle.reader.specs.Numbers.{readNumbers}
 use Rattle.reader.specs.Told.{Reading, Told}

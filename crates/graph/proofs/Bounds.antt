@@ -15,7 +15,7 @@ use Rattle.numbers.specs.Bits.{bit, Has, hasb, size, adding, has-decides, has-a
 use Rattle.numbers.specs.Decides.{Decides, decides-and, decides-not, decides-eqb, decides-true, decides-false}
 use Rattle.numbers.specs.Lowest.{lowest-is}
 use Rattle.units.specs.Limits.{ACTORS}
-use Rattle.tables.specs.declared.Mode.{Mode}
+use Rattle.tables.specs.Shape.{Mode}
 use Rattle.tables.specs.Proper.{ProperMode}
 use Rattle.graph.specs.Ends.{IsSource, IsSink, Only, Ends, NoEnds}
 use Rattle.graph.specs.Rounds.{predsOf, chosen, firstsOf, giversFrom, lastsOf, lowestOf}

@@ -10,8 +10,7 @@ use lib.ListN.{length, getD, set, replicate, length-set, length-replicate}
 use lib.Seq.{getD-set-same, getD-set-other}
 use Rattle.units.specs.Limits.{ACTORS}
 use Rattle.tables.specs.declared.Channel.{Channel}
-use Rattle.tables.specs.declared.Mode.{Mode}
-use Rattle.tables.specs.Shape.{channelAt}
+use Rattle.tables.specs.Shape.{Mode, channelAt}
 use Rattle.tables.specs.Proper.{ProperMode}
 use Rattle.graph.specs.Order.{Ranked}
 use Rattle.graph.specs.Counts.{Entered, entriesFrom, entriesOf}

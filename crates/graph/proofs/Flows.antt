@@ -28,8 +28,7 @@ use Rattle.rate.specs.Rate.{rateOf, rate-in}
 use Rattle.rate.specs.Reckoned.{meetOf}
 use Rattle.tables.specs.declared.Actor.{Actor}
 use Rattle.tables.specs.declared.Channel.{Channel}
-use Rattle.tables.specs.declared.Mode.{Mode}
-use Rattle.tables.specs.Shape.{actorAt, channelAt}
+use Rattle.tables.specs.Shape.{Mode, actorAt, channelAt}
 use Rattle.tables.specs.Proper.{ProperMode, ProperRates}
 use Rattle.tables.specs.Memory.{headIn, actorIn, channelIn, modeIn, Stands}
 use Rattle.graph.specs.declared.balance.Counts.{Counts}

@@ -12,7 +12,7 @@ use Rattle.units.specs.declared.Firing.{Firing}
 use Rattle.units.specs.Limits.{ACTORS, ITERATION-LIMIT, PROCESSORS}
 use Rattle.period.specs.declared.Length.{Length}
 use Rattle.period.specs.declared.Length.the-variants.{Is, Above as TooLong}
-use Rattle.tables.specs.declared.Mode.{Mode}
+use Rattle.tables.specs.Shape.{Mode}
 use Rattle.tables.specs.Proper.{ProperMode}
 use Rattle.graph.specs.declared.Verdict.the-variants.{Unbalanced as IsUnbalanced, Overloaded as IsOverloaded, Ends as HasNoEnds, Cyclic as IsCyclic}
 use Rattle.graph.specs.Order.{Cyclic, Ranked}

@@ -29,8 +29,7 @@ use Rattle.period.specs.declared.Length.the-variants.{Is, Above as TooLong}
 use Rattle.period.specs.Period.{workOf, periodOf, CommonWithin, IterationIs, IterationWithin}
 use Rattle.period.specs.Reckoned.{commonOf, common-of, common-is, lengthOf as reckonedOf, iteration-of}
 use Rattle.tables.specs.declared.Actor.{Actor}
-use Rattle.tables.specs.declared.Mode.{Mode}
-use Rattle.tables.specs.Shape.{noActor, actorAt, Active}
+use Rattle.tables.specs.Shape.{Mode, noActor, actorAt, Active}
 use Rattle.tables.specs.Proper.{ProperMode}
 use Rattle.graph.specs.Balance.{Balances, Common, Most, Iteration, Unbalanced, firingsOf, workIn}
 use Rattle.graph.specs.Laws.{iteration-one, iteration-scaled, iteration-pos, period-whole}

@@ -20,8 +20,7 @@ use Rattle.units.specs.Tokens.{timesTokens}
 use Rattle.rate.specs.declared.Meeting.{Meeting}
 use Rattle.rate.specs.Rate.{Meets}
 use Rattle.rate.specs.Reckoned.{meetOf, meet-of}
-use Rattle.tables.specs.declared.Mode.{Mode}
-use Rattle.tables.specs.Shape.{channelAt, Active}
+use Rattle.tables.specs.Shape.{Mode, channelAt, Active}
 use Rattle.tables.specs.Proper.{ProperMode}
 use Rattle.graph.specs.declared.balance.Counts.{Counts}
 use Rattle.graph.specs.Order.{Joins, Cyclic, Depth, Ranked}

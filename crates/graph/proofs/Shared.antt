@@ -27,8 +27,7 @@ use Rattle.units.specs.Limits.{ACTORS, PHASES, MOST-WCET, PROCESSORS, LOAD-LIMI
 use Rattle.period.specs.Period.{periodOf, shareOf}
 use Rattle.terms.specs.Place.{numberOf}
 use Rattle.tables.specs.declared.Actor.{Actor}
-use Rattle.tables.specs.declared.Mode.{Mode}
-use Rattle.tables.specs.Shape.{noActor, actorAt}
+use Rattle.tables.specs.Shape.{Mode, noActor, actorAt}
 use Rattle.tables.specs.Proper.{ProperMode}
 use Rattle.graph.specs.Balance.{Iteration, firingsOf, workIn}
 use Rattle.graph.specs.Load.{isOn, askedBy, loadOf, Overloaded}

@@ -18,8 +18,7 @@ use Rattle.numbers.specs.Decides.{Decides, decides-and, decides-true, decides-f
 use Rattle.numbers.specs.Tab.{getD-replicated}
 use Rattle.units.specs.Limits.{ACTORS}
 use Rattle.tables.specs.declared.Channel.{Channel}
-use Rattle.tables.specs.declared.Mode.{Mode}
-use Rattle.tables.specs.Shape.{channelAt, Active}
+use Rattle.tables.specs.Shape.{Mode, channelAt, Active}
 use Rattle.tables.specs.Proper.{ProperMode}
 use Rattle.graph.specs.declared.order.Order.{Order}
 use Rattle.graph.specs.Order.{Joins, Path, one, more, Cyclic, Leads, start, step, Depth, Ranked}

@@ -20,8 +20,7 @@ use Rattle.units.specs.Limits.{ACTORS, LOAD-LIMIT}
 use Rattle.units.specs.Firings.{firing}
 use Rattle.period.specs.Period.{periodOf}
 use Rattle.terms.specs.Place.{numberOf}
-use Rattle.tables.specs.declared.Mode.{Mode}
-use Rattle.tables.specs.Shape.{Active, actorAt}
+use Rattle.tables.specs.Shape.{Mode, Active, actorAt}
 use Rattle.graph.specs.declared.Verdict.the-variants.{Overloaded as IsOverloaded}
 use Rattle.graph.specs.declared.Judgement.{Judgement}
 use Rattle.graph.specs.Order.{Ranked}

@@ -12,8 +12,7 @@ use Rattle.units.specs.Firings.{firing}
 use Rattle.units.specs.Tokens.{timesTokens}
 use Rattle.period.specs.Period.{workOf, IterationIs}
 use Rattle.rate.specs.Rate.{tokensOf, cyclesOf}
-use Rattle.tables.specs.declared.Mode.{Mode}
-use Rattle.tables.specs.Shape.{actorAt, channelAt, Active}
+use Rattle.tables.specs.Shape.{Mode, actorAt, channelAt, Active}
 
 -- the tokens of a cycle: all phases once
 abbrev pub cycleSum : ℕ → List ℕ → Token

@@ -14,8 +14,7 @@ use Rattle.rate.specs.declared.Meeting.{Meeting}
 use Rattle.rate.specs.Reckoned.{meetOf}
 use Rattle.tables.specs.declared.Actor.{Actor}
 use Rattle.tables.specs.declared.Channel.{Channel}
-use Rattle.tables.specs.declared.Mode.{Mode}
-use Rattle.tables.specs.Shape.{actorAt, channelAt, Active}
+use Rattle.tables.specs.Shape.{Mode, actorAt, channelAt, Active}
 use Rattle.graph.specs.declared.balance.Counts.{Counts}
 use Rattle.graph.specs.declared.balance.Flow.{Flow}
 use Rattle.graph.specs.Balance.{cycleSum, madeOn, takenOn}

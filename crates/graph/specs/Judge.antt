@@ -9,7 +9,7 @@ use Rattle.units.specs.declared.Firing.{Firing}
 use Rattle.units.specs.Limits.{ACTORS, PROCESSORS}
 use Rattle.period.specs.declared.Length.{Length}
 use Rattle.period.specs.declared.Length.the-variants.{Is, Above as TooLong}
-use Rattle.tables.specs.declared.Mode.{Mode}
+use Rattle.tables.specs.Shape.{Mode}
 use Rattle.graph.specs.declared.Verdict.the-variants.{Cyclic, Ends, Unbalanced, Overloaded, Sound}
 use Rattle.graph.specs.declared.Judgement.{Judgement}
 use Rattle.graph.specs.declared.order.Order.{Order}

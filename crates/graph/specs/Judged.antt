@@ -11,7 +11,7 @@ use Rattle.units.specs.Ticks.{tick}
 use Rattle.units.specs.Limits.{ACTORS, ITERATION-LIMIT}
 use Rattle.units.specs.Firings.{firing}
 use Rattle.period.specs.Period.{periodOf}
-use Rattle.tables.specs.declared.Mode.{Mode}
+use Rattle.tables.specs.Shape.{Mode}
 use Rattle.graph.specs.declared.Verdict.the-variants.{Cyclic as IsCyclic, Ends as HasNoEnds, Unbalanced as IsUnbalanced, Overloaded as IsOverloaded, Sound as IsSound}
 use Rattle.graph.specs.declared.Judgement.{Judgement}
 use Rattle.graph.specs.Nothing.{refusedBy}

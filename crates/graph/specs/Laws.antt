@@ -9,8 +9,7 @@ use Rattle.units.specs.declared.Tick.{Tick}
 use Rattle.units.specs.Ticks.{tick}
 use Rattle.units.specs.Firings.{firing}
 use Rattle.period.specs.Period.{periodOf, iteration-unique}
-use Rattle.tables.specs.declared.Mode.{Mode}
-use Rattle.tables.specs.Shape.{actorAt, Active}
+use Rattle.tables.specs.Shape.{Mode, actorAt, Active}
 use Rattle.tables.specs.Proper.{ProperMode}
 use Rattle.graph.specs.Balance.{Balances, Iteration, firingsOf, workIn}
 

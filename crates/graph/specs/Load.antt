@@ -9,8 +9,7 @@ use Rattle.units.specs.declared.Tick.{Tick}
 use Rattle.units.specs.Limits.{ACTORS, PROCESSORS, limitOf}
 use Rattle.period.specs.Period.{periodOf, shareOf}
 use Rattle.terms.specs.Place.{numberOf}
-use Rattle.tables.specs.declared.Mode.{Mode}
-use Rattle.tables.specs.Shape.{actorAt}
+use Rattle.tables.specs.Shape.{Mode, actorAt}
 use Rattle.graph.specs.Balance.{firingsOf}
 
 -- actor i is active on processor p

@@ -5,8 +5,7 @@ use Prim.Native.Nat.{ℕ, zero, suc, _<_}
 use lib.ListN.{length, getD}
 use Rattle.numbers.specs.Extreme.{Greatest}
 use Rattle.units.specs.Limits.{ACTORS}
-use Rattle.tables.specs.declared.Mode.{Mode}
-use Rattle.tables.specs.Shape.{channelAt, Active}
+use Rattle.tables.specs.Shape.{Mode, channelAt, Active}
 
 -- some channel of the mode goes from actor j to actor i
 abbrev pub Joins : Mode → ℕ → ℕ → Type 0

@@ -9,8 +9,7 @@ use Rattle.numbers.specs.Bits.{hasb, size, adding, removing}
 use Rattle.numbers.specs.Lowest.{lowestOr}
 use Rattle.units.specs.Limits.{ACTORS}
 use Rattle.tables.specs.declared.Channel.{Channel}
-use Rattle.tables.specs.declared.Mode.{Mode}
-use Rattle.tables.specs.Shape.{channelAt}
+use Rattle.tables.specs.Shape.{Mode, channelAt}
 use Rattle.graph.specs.declared.order.Order.{Order}
 
 -- the sets with one channel more

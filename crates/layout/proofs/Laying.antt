@@ -20,8 +20,7 @@ use Rattle.tables.specs.declared.memory.Head.{Head}
 use Rattle.tables.specs.declared.memory.Times.{Times}
 use Rattle.tables.specs.declared.Actor.{Actor}
 use Rattle.tables.specs.declared.Channel.{Channel}
-use Rattle.tables.specs.declared.Mode.{Mode}
-use Rattle.tables.specs.Shape.{channelAt}
+use Rattle.tables.specs.Shape.{Mode, channelAt}
 use Rattle.tables.specs.Memory.{HEAD-WORDS, ACTOR-WORDS, FRONT-WORDS, headWords, actorWords, frontWords, channelBytes, headIn, actorsAt, actorIn, timesIn, actorOf, timesOf, modeIn}
 use Rattle.tables.proofs.Remembered.{actor-words, channel-stretch, actor-in, channel-in}
 use Rattle.planning.specs.declared.ModePlan.{ModePlan}

@@ -12,11 +12,9 @@ use Rattle.units.specs.Limits.{MODES, ACTORS, CHANNELS}
 use Rattle.units.specs.Firings.{firing}
 use Rattle.units.specs.Ticks.{tick}
 use Rattle.units.specs.Tokens.{token}
-use Rattle.tables.specs.declared.Mode.{Mode}
-use Rattle.tables.specs.declared.Table.{Table}
 use Rattle.tables.specs.declared.memory.Head.{Head}
 use Rattle.tables.specs.declared.memory.Times.{Times}
-use Rattle.tables.specs.Shape.{modeAt, actorAt}
+use Rattle.tables.specs.Shape.{Mode, Table, modeAt, actorAt}
 use Rattle.tables.specs.Proper.{ProperMode, ProperTable}
 use Rattle.tables.specs.Memory.{FRONT-WORDS, headOf, headIn, timesIn}
 use Rattle.tables.proofs.Remembered.{front-head, front-times}

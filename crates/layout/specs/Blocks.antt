@@ -10,8 +10,7 @@ use Rattle.numbers.specs.Tab.{stretchOf}
 use Rattle.units.specs.Limits.{CHANNELS}
 use Rattle.units.specs.Ticks.{tick}
 use Rattle.units.specs.Tokens.{token}
-use Rattle.tables.specs.declared.Mode.{Mode}
-use Rattle.tables.specs.Shape.{channelAt, emptyChannel}
+use Rattle.tables.specs.Shape.{Mode, channelAt, emptyChannel}
 use Rattle.tables.specs.Memory.{ACTOR-WORDS, CHANNEL-BYTES, actorWords, actorOf, headIn, timesIn}
 use Rattle.change.specs.declared.Timing.{Timing}
 use Rattle.planning.specs.declared.ModePlan.{ModePlan}

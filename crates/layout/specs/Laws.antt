@@ -14,10 +14,8 @@ use Rattle.numbers.specs.Tab.{tab, length-tab, is-tab, tab-at, getD-replicated}
 use Rattle.units.specs.Limits.{MODES, ACTORS, CHANNELS, PHASES, MOST-RATE}
 use Rattle.units.specs.Ticks.{tick}
 use Rattle.tables.specs.declared.Channel.{Channel}
-use Rattle.tables.specs.declared.Mode.{Mode}
-use Rattle.tables.specs.declared.Table.{Table}
 use Rattle.tables.specs.declared.memory.Times.{Times}
-use Rattle.tables.specs.Shape.{noMode, emptyChannel, actorAt, channelAt, modeAt}
+use Rattle.tables.specs.Shape.{Mode, Table, noMode, emptyChannel, actorAt, channelAt, modeAt}
 use Rattle.tables.specs.Proper.{ProperMode, ProperTable}
 use Rattle.tables.specs.Memory.{FRONT-WORDS, CHANNEL-BYTES, rateWords, channelBytes, headOf, channelsOf, modeIn, actorsAt}
 use Rattle.tables.proofs.Remembered.{length-front, front-times, mode-in}

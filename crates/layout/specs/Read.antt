@@ -5,8 +5,7 @@ use lib.ListN.{getD, take, drop}
 use Rattle.numbers.specs.Joined.{joined, part}
 use Rattle.numbers.specs.Tab.{tab}
 use Rattle.units.specs.Limits.{MODES, ACTORS, CHANNELS}
-use Rattle.tables.specs.declared.Mode.{Mode}
-use Rattle.tables.specs.declared.Table.{Table}
+use Rattle.tables.specs.Shape.{Mode, Table}
 use Rattle.tables.specs.Memory.{FRONT-WORDS, CHANNEL-BYTES, headIn, timesIn, modeIn}
 use Rattle.change.specs.Running.{startupIn}
 use Rattle.planning.specs.declared.ModePlan.{ModePlan}

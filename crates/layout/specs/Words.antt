@@ -9,11 +9,9 @@ use Rattle.units.specs.Tokens.{token}
 use Rattle.units.specs.Limits.{MODES, CHANNELS}
 use Rattle.units.specs.Firings.{firing}
 use Rattle.tables.specs.declared.Channel.{Channel}
-use Rattle.tables.specs.declared.Mode.{Mode}
-use Rattle.tables.specs.declared.Table.{Table}
 use Rattle.tables.specs.declared.memory.Head.{Head}
 use Rattle.tables.specs.declared.memory.Times.{Times}
-use Rattle.tables.specs.Shape.{actorAt, channelAt, modeAt}
+use Rattle.tables.specs.Shape.{Mode, Table, actorAt, channelAt, modeAt}
 use Rattle.tables.specs.Memory.{FRONT-WORDS, CHANNEL-BYTES, frontWords, channelBytes, headOf}
 use Rattle.change.specs.declared.Timing.{Timing}
 use Rattle.planning.specs.declared.ModePlan.{ModePlan}

@@ -8,7 +8,7 @@ use borrow.Author.Tests.{eq-eqb, ne-eqb}
 use lib.Dec.{T}
 use Rattle.units.specs.declared.Tick.{Tick}
 use Rattle.units.specs.Ticks.{tick}
-use Rattle.tables.specs.declared.Table.{Table}
+use Rattle.tables.specs.Shape.{Table}
 use Rattle.planning.specs.Shape.{Plan}
 use Rattle.planning.specs.Plan.{changeAt}
 use Rattle.run.specs.Machine as Run

@@ -12,8 +12,7 @@ use Rattle.units.specs.Ticks.{tick}
 use Rattle.units.specs.Tokens.{token}
 use Rattle.units.specs.Firings.{firing}
 use Rattle.rate.specs.Rate.{rateOf}
-use Rattle.tables.specs.declared.Mode.{Mode}
-use Rattle.tables.specs.Shape.{channelAt, Active}
+use Rattle.tables.specs.Shape.{Mode, channelAt, Active}
 use Rattle.tables.specs.Proper.{ProperMode}
 use Rattle.graph.specs.Balance.{firingsOf}
 use Rattle.channel.specs.declared.End.{End}

@@ -17,8 +17,7 @@ use Rattle.units.specs.Limits.{MODES, ACTORS, PROCESSORS, ITERATION-LIMIT, LOAD
 use Rattle.units.specs.Firings.{firing}
 use Rattle.units.specs.declared.Tick.{Tick}
 use Rattle.units.specs.Ticks.{tick}
-use Rattle.tables.specs.declared.Table.{Table}
-use Rattle.tables.specs.Shape.{actorAt, Active}
+use Rattle.tables.specs.Shape.{Table, actorAt, Active}
 use Rattle.tables.specs.Proper.{ProperActor, ProperTable}
 use Rattle.graph.specs.Load.{askedBy}
 use Rattle.change.specs.Change.{ModeTimes, Changes, periodIn, askedOn, starts-after}

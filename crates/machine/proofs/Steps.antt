@@ -17,8 +17,7 @@ use Rattle.units.specs.declared.Tick.{Tick}
 use Rattle.units.specs.Ticks.{tick}
 use Rattle.terms.specs.Refusal.{NO-MODE, SAME-MODE, PAST-CLOCK, UNENDED, NO-MACHINE}
 use Rattle.terms.specs.Place.{numberOf}
-use Rattle.tables.specs.declared.Table.{Table}
-use Rattle.tables.specs.Shape.{modeAt}
+use Rattle.tables.specs.Shape.{Table, modeAt}
 use Rattle.tables.specs.Proper.{ProperTable}
 use Rattle.planning.specs.Shape.{Plan}
 use Rattle.run.specs.Plan.{RunPlan, sinkStart}

@@ -7,7 +7,7 @@ use native.Mathlib.Omega.{arith}
 use lib.Dec.{T}
 use Rattle.numbers.specs.Extreme.{least-unique}
 use Rattle.units.specs.declared.Tick.{Tick}
-use Rattle.tables.specs.declared.Table.{Table}
+use Rattle.tables.specs.Shape.{Table}
 use Rattle.planning.specs.Shape.{Plan}
 use Rattle.run.specs.Machine as Run
 use Rattle.machine.specs.Plan.{isListed, planOf}

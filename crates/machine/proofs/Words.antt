@@ -9,9 +9,7 @@ use Rattle.numbers.specs.Tab.{getD-replicated}
 use Rattle.units.specs.Limits.{MODES, ACTORS}
 use Rattle.units.specs.declared.Tick.{Tick}
 use Rattle.units.specs.Ticks.{tick}
-use Rattle.tables.specs.declared.Mode.{Mode}
-use Rattle.tables.specs.declared.Table.{Table}
-use Rattle.tables.specs.Shape.{modeAt}
+use Rattle.tables.specs.Shape.{Mode, Table, modeAt}
 use Rattle.schedule.proofs.Sound.{at-actor}
 use Rattle.planning.specs.declared.ModePlan.{ModePlan}
 use Rattle.planning.specs.Shape.{Plan}

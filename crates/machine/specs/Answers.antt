@@ -9,7 +9,7 @@ use Rattle.units.specs.Ticks.{tick}
 use Rattle.terms.specs.Refusal.{NO-MODE, NO-PLAN, refusalAt}
 use Rattle.terms.specs.declared.refusal.Place.the-variants.{Nowhere}
 use Rattle.terms.specs.declared.refusal.Refusal.{Refusal}
-use Rattle.tables.specs.declared.Table.{Table}
+use Rattle.tables.specs.Shape.{Table}
 use Rattle.planning.specs.Shape.{Plan}
 use Rattle.run.specs.Plan.{RunPlan}
 use Rattle.run.specs.Machine as Run

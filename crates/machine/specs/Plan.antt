@@ -10,9 +10,7 @@ use Rattle.units.specs.Ticks.{tick}
 use Rattle.units.specs.Tokens.{token}
 use Rattle.rate.specs.Rate.{rateOf}
 use Rattle.terms.specs.Place.{placeOf}
-use Rattle.tables.specs.declared.Mode.{Mode}
-use Rattle.tables.specs.declared.Table.{Table}
-use Rattle.tables.specs.Shape.{actorAt, channelAt, modeAt}
+use Rattle.tables.specs.Shape.{Mode, Table, actorAt, channelAt, modeAt}
 use Rattle.planning.specs.declared.ModePlan.{ModePlan}
 use Rattle.planning.specs.Shape.{Plan}
 use Rattle.planning.specs.Plan.{partAt, changeAt}

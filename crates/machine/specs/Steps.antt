@@ -10,8 +10,7 @@ use Rattle.units.specs.Limits.{MODES, ITERATION-LIMIT, CLOCK-LIMIT}
 use Rattle.units.specs.declared.Tick.{Tick}
 use Rattle.units.specs.Ticks.{tick, greaterTick}
 use Rattle.terms.specs.Place.{placeOf}
-use Rattle.tables.specs.declared.Table.{Table}
-use Rattle.tables.specs.Shape.{modeAt}
+use Rattle.tables.specs.Shape.{Table, modeAt}
 use Rattle.planning.specs.Shape.{Plan}
 use Rattle.planning.specs.Plan.{partAt, changeAt}
 use Rattle.layout.specs.declared.load.Pace.{Pace}

@@ -15,9 +15,7 @@ use Rattle.units.specs.declared.Tick.{Tick}
 use Rattle.units.specs.Ticks.{tick}
 use Rattle.terms.specs.Refusal.{lineOf, printedOf}
 use Rattle.terms.specs.declared.refusal.Printed.{Printed as Five}
-use Rattle.tables.specs.declared.Mode.{Mode}
-use Rattle.tables.specs.declared.Table.{Table}
-use Rattle.tables.specs.Shape.{modeAt}
+use Rattle.tables.specs.Shape.{Mode, Table, modeAt}
 use Rattle.tables.specs.Proper.{ProperMode, ProperTable}
 use Rattle.reader.specs.Told.{rows, tableOf}
 use Rattle.reader.proofs.Again.{reads-proper}

@@ -22,7 +22,7 @@ use Rattle.channel.specs.Phases.{startOf, sizeOf}
 use Rattle.schedule.specs.Model.{depthFrom, startsFrom, scheduleOf}
 use Rattle.run.specs.Machine.{refusal, answer, run}
 use Rattle.run.specs.Firing.{tally, begun, done, total, asks, asked}
-use Rattle.tables.specs.declared.Table.{Table}
+use Rattle.tables.specs.Shape.{Table}
 use Rattle.planning.specs.Shape.{Plan}
 use Rattle.planning.specs.Plan.{Planned}
 use Rattle.planner.specs.Plans.{Reads}

@@ -8,8 +8,7 @@ use Rattle.numbers.specs.Filled.{filled-whole}
 use Rattle.numbers.specs.Tab.{tab, length-tab, getD-tab, getD-replicated}
 use Rattle.units.specs.Limits.{MODES}
 use Rattle.terms.specs.declared.refusal.Refusal.{Refusal}
-use Rattle.tables.specs.declared.Table.{Table}
-use Rattle.tables.specs.Shape.{modeAt}
+use Rattle.tables.specs.Shape.{Table, modeAt}
 use Rattle.tables.specs.Proper.{ProperTable}
 use Rattle.planning.specs.declared.ModePlan.{ModePlan}
 use Rattle.planning.specs.Shape.{Plan}

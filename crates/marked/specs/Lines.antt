@@ -10,8 +10,7 @@ use Rattle.units.specs.Ticks.{tick}
 use Rattle.terms.specs.Refusal.{lineOf, printedOf}
 use Rattle.terms.specs.Text.{bytes}
 use Rattle.terms.specs.declared.refusal.Refusal.{Refusal}
-use Rattle.tables.specs.declared.Table.{Table}
-use Rattle.tables.specs.Shape.{modeAt}
+use Rattle.tables.specs.Shape.{Table, modeAt}
 use Rattle.graph.specs.declared.Verdict.the-variants.{Sound}
 use Rattle.graph.specs.declared.Judgement.{Judgement}
 use Rattle.graph.specs.Judged.{Judged}

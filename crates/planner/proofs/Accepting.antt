@@ -11,9 +11,7 @@ use Rattle.numbers.specs.Tab.{tab, stretchOf}
 use Rattle.numbers.proofs.Laid.{stretch-joined}
 use Rattle.units.specs.Limits.{MODES, CHANNELS}
 use Rattle.terms.specs.declared.refusal.Refusal.{Refusal}
-use Rattle.tables.specs.declared.Mode.{Mode}
-use Rattle.tables.specs.declared.Table.{Table}
-use Rattle.tables.specs.Shape.{modeAt, channelAt}
+use Rattle.tables.specs.Shape.{Mode, Table, modeAt, channelAt}
 use Rattle.tables.specs.Proper.{ProperMode, ProperTable}
 use Rattle.tables.specs.Memory.{FRONT-WORDS, CHANNEL-BYTES, CHANNELS-BYTES, channelBytes, channelsOf, tableIn, tableChannels}
 use Rattle.tables.proofs.Remembered.{length-channels, table-in}

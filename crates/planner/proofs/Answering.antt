@@ -6,9 +6,8 @@ use native.Mathlib.Omega.{arith}
 use lib.ListN.{length, replicate}
 use Rattle.units.specs.Limits.{MODES}
 use Rattle.terms.specs.declared.refusal.Refusal.{Refusal}
-use Rattle.tables.specs.declared.Table.{Table}
 use Rattle.tables.specs.Proper.{ProperTable}
-use Rattle.tables.specs.Shape.{modeAt, emptyTable}
+use Rattle.tables.specs.Shape.{Table, modeAt, emptyTable}
 use Rattle.reader.specs.declared.Answer.{Answer as ReadAnswer}
 use Rattle.reader.specs.declared.Answer.the-variants.{Read, Refused as NotRead}
 use Rattle.reader.specs.Told.{Reading, Outcome as Rows, rows, refused as rows-refused, Of, readingOf, Told}

@@ -17,8 +17,7 @@ use Rattle.units.specs.declared.Token.{Token}
 use Rattle.units.specs.Ticks.{tick}
 use Rattle.units.specs.Tokens.{token}
 use Rattle.terms.specs.declared.refusal.Refusal.{Refusal}
-use Rattle.tables.specs.declared.Mode.{Mode}
-use Rattle.tables.specs.Shape.{noActor, noChannel, emptyChannel, emptyMode}
+use Rattle.tables.specs.Shape.{Mode, noActor, noChannel, emptyChannel, emptyMode}
 use Rattle.tables.specs.Proper.{ProperMode}
 use Rattle.tables.specs.Grown.{empty-proper}
 use Rattle.tables.specs.Memory.{FRONT-WORDS, headOf, modeIn}

@@ -15,10 +15,8 @@ use Rattle.units.specs.Limits.{MODES, ACTORS, CHANNELS}
 use Rattle.terms.specs.declared.refusal.Refusal.{Refusal}
 use Rattle.terms.specs.Place.{numberOf}
 use Rattle.tables.specs.declared.Actor.{Actor}
-use Rattle.tables.specs.declared.Mode.{Mode}
-use Rattle.tables.specs.declared.Table.{Table}
 use Rattle.tables.specs.declared.memory.Head.{Head}
-use Rattle.tables.specs.Shape.{modeAt, actorAt}
+use Rattle.tables.specs.Shape.{Mode, Table, modeAt, actorAt}
 use Rattle.tables.specs.Proper.{ProperMode, ProperTable}
 use Rattle.tables.specs.Memory.{FRONT-WORDS, CHANNELS-BYTES, TABLE-WORDS, TABLE-BYTES, headWords, actorWords, frontWords, noTimes, headOf, frontOf, channelsOf, headIn, actorIn, modeIn, Stands, tableChannels}
 use Rattle.tables.proofs.Remembered.{length-front, length-channels, front-head, front-actor, mode-in, zeros-joined}

@@ -16,9 +16,7 @@ use Rattle.numbers.specs.Tab.{tab, length-tab, getD-tab, tab-same}
 use Rattle.numbers.proofs.Laid.{part-is, parts-joined}
 use Rattle.units.specs.Limits.{MODES, ACTORS}
 use Rattle.tables.specs.declared.Actor.{Actor}
-use Rattle.tables.specs.declared.Mode.{Mode}
-use Rattle.tables.specs.declared.Table.{Table}
-use Rattle.tables.specs.Shape.{noMode, modeAt}
+use Rattle.tables.specs.Shape.{Mode, Table, noMode, modeAt}
 use Rattle.tables.specs.Proper.{ProperMode, ProperTable}
 use Rattle.tables.specs.Memory.{FRONT-WORDS, actorIn}
 use Rattle.tables.specs.Parts.{AtHome, housedOf}

@@ -4,7 +4,7 @@ use mathlib.Core.List.{List}
 use Prim.Native.Nat.{ℕ}
 use native.Mathlib.Omega.{arith}
 use lib.ListN.{length}
-use Rattle.tables.specs.declared.Table.{Table}
+use Rattle.tables.specs.Shape.{Table}
 use Rattle.tables.specs.Proper.{ProperTable}
 use Rattle.reader.specs.Told.{Reading}
 use Rattle.reader.specs.Writing.{written}

@@ -6,9 +6,7 @@ use lib.ListN.{length, getD, replicate}
 use Rattle.numbers.specs.Joined.{joined}
 use Rattle.numbers.specs.Tab.{stretchOf}
 use Rattle.units.specs.Limits.{MODES}
-use Rattle.tables.specs.declared.Mode.{Mode}
-use Rattle.tables.specs.declared.Table.{Table}
-use Rattle.tables.specs.Shape.{modeAt}
+use Rattle.tables.specs.Shape.{Mode, Table, modeAt}
 use Rattle.tables.specs.Proper.{ProperMode, ProperTable}
 use Rattle.tables.specs.Memory.{FRONT-WORDS, CHANNELS-BYTES, frontOf, channelsOf, tableFronts, tableChannels}
 use Rattle.planning.specs.declared.ModePlan.{ModePlan}

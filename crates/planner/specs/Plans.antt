@@ -6,8 +6,7 @@ use lib.ListN.{length}
 use Rattle.terms.specs.Refusal.{NO-PLAN, refusalAt}
 use Rattle.terms.specs.declared.refusal.Place.the-variants.{Nowhere}
 use Rattle.terms.specs.declared.refusal.Refusal.{Refusal}
-use Rattle.tables.specs.declared.Table.{Table}
-use Rattle.tables.specs.Shape.{emptyTable}
+use Rattle.tables.specs.Shape.{Table, emptyTable}
 use Rattle.reader.specs.declared.Answer.the-variants.{Read, Refused as NotRead}
 use Rattle.reader.specs.Told.{Told}
 use Rattle.planning.specs.Shape.{Plan}

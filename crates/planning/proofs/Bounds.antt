@@ -24,9 +24,7 @@ use Rattle.units.specs.Tokens.{token}
 use Rattle.units.specs.Firings.{firing}
 use Rattle.period.specs.Period.{periodOf}
 use Rattle.rate.specs.Rate.{rateOf}
-use Rattle.tables.specs.declared.Mode.{Mode}
-use Rattle.tables.specs.declared.Table.{Table}
-use Rattle.tables.specs.Shape.{modeAt, channelAt, Active}
+use Rattle.tables.specs.Shape.{Mode, Table, modeAt, channelAt, Active}
 use Rattle.tables.specs.Proper.{ProperMode, ProperRates, ProperTable}
 use Rattle.graph.specs.Balance.{firingsOf}
 use Rattle.graph.specs.Judged.{ofActors}

@@ -8,9 +8,7 @@ use lib.ListN.{getD}
 use Rattle.numbers.specs.Tab.{getD-tab}
 use Rattle.units.specs.Limits.{MODES}
 use Rattle.terms.specs.declared.refusal.Refusal.{Refusal}
-use Rattle.tables.specs.declared.Mode.{Mode}
-use Rattle.tables.specs.declared.Table.{Table}
-use Rattle.tables.specs.Shape.{modeAt}
+use Rattle.tables.specs.Shape.{Mode, Table, modeAt}
 use Rattle.tables.specs.Proper.{ProperTable}
 use Rattle.change.specs.Work.{Running}
 use Rattle.change.specs.declared.Timing.{Timing}

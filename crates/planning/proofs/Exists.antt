@@ -11,9 +11,7 @@ use Rattle.numbers.specs.Filled.{filled-none, filled-set}
 use Rattle.units.specs.Limits.{MODES}
 use Rattle.terms.specs.declared.refusal.Refusal.{Refusal}
 use Rattle.terms.specs.Place.{numberOf}
-use Rattle.tables.specs.declared.Mode.{Mode}
-use Rattle.tables.specs.declared.Table.{Table}
-use Rattle.tables.specs.Shape.{modeAt}
+use Rattle.tables.specs.Shape.{Mode, Table, modeAt}
 use Rattle.tables.specs.Proper.{ProperMode, ProperTable}
 use Rattle.planning.specs.declared.ModePlan.{ModePlan}
 use Rattle.planning.specs.Shape.{Outcome}

@@ -13,7 +13,7 @@ use Rattle.units.specs.declared.Tick.{Tick}
 use Rattle.terms.specs.Refusal.{refusalAt}
 use Rattle.terms.specs.declared.refusal.Place.the-variants.{Mode as AtMode, Actor as AtActor, Processor as AtProcessor}
 use Rattle.terms.specs.Place.{numberOf}
-use Rattle.tables.specs.declared.Mode.{Mode}
+use Rattle.tables.specs.Shape.{Mode}
 use Rattle.tables.specs.Proper.{ProperMode}
 use Rattle.graph.specs.declared.Verdict.{Verdict}
 use Rattle.graph.specs.declared.Verdict.the-variants.{Cyclic, Ends, Unbalanced, Overloaded, Sound}

@@ -20,9 +20,7 @@ use Rattle.units.specs.Ticks.{tick}
 use Rattle.units.specs.Firings.{firing}
 use Rattle.period.specs.Period.{periodOf, shareOf}
 use Rattle.terms.specs.Place.{numberOf}
-use Rattle.tables.specs.declared.Mode.{Mode}
-use Rattle.tables.specs.declared.Table.{Table}
-use Rattle.tables.specs.Shape.{modeAt, actorAt, Active}
+use Rattle.tables.specs.Shape.{Mode, Table, modeAt, actorAt, Active}
 use Rattle.tables.specs.Proper.{ProperMode, ProperTable}
 use Rattle.graph.specs.Balance.{firingsOf}
 use Rattle.graph.specs.Load.{Overloaded, isOn, askedBy, askedOf, loadOf}

@@ -9,7 +9,7 @@ use Rattle.terms.specs.Refusal.{CYCLE, NO-ENDS, NO-BALANCE, OVERLOAD, LATE, ref
 use Rattle.terms.specs.declared.refusal.Place.the-variants.{Nowhere, Mode as AtMode, Actor as AtActor, Processor as AtProcessor}
 use Rattle.terms.specs.declared.refusal.Refusal.{Refusal}
 use Rattle.terms.specs.Place.{numberOf}
-use Rattle.tables.specs.declared.Mode.{Mode}
+use Rattle.tables.specs.Shape.{Mode}
 use Rattle.tables.specs.Proper.{ProperMode}
 use Rattle.graph.specs.declared.Verdict.{Verdict}
 use Rattle.graph.specs.declared.Verdict.the-variants.{Cyclic as IsCyclic, Ends as HasNoEnds, Unbalanced as IsUnbalanced, Overloaded as IsOverloaded, Sound as IsSound}

@@ -20,9 +20,7 @@ use Rattle.terms.specs.Refusal.{OVERLOAD, LATE, refusalAt}
 use Rattle.terms.specs.declared.refusal.Place.the-variants.{Actor as AtActor, Processor as AtProcessor}
 use Rattle.terms.specs.declared.refusal.Refusal.{Refusal}
 use Rattle.terms.specs.Place.{numberOf}
-use Rattle.tables.specs.declared.Mode.{Mode}
-use Rattle.tables.specs.declared.Table.{Table}
-use Rattle.tables.specs.Shape.{modeAt}
+use Rattle.tables.specs.Shape.{Mode, Table, modeAt}
 use Rattle.graph.specs.declared.Judgement.{Judgement}
 use Rattle.graph.specs.declared.Verdict.the-variants.{Sound}
 use Rattle.graph.specs.Balance.{firingsOf}

@@ -6,7 +6,7 @@ use lib.ListN.{length, getD}
 use Rattle.numbers.specs.Filled.{Filled}
 use Rattle.units.specs.Ticks.{tick}
 use Rattle.units.specs.Limits.{MODES}
-use Rattle.tables.specs.declared.Mode.{Mode}
+use Rattle.tables.specs.Shape.{Mode}
 use Rattle.change.specs.declared.Timing.{Timing}
 use Rattle.change.specs.Change.{Changes}
 use Rattle.change.specs.Work.{Running, preparedOf}

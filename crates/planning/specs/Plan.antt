@@ -14,9 +14,7 @@ use Rattle.terms.specs.Refusal.{CYCLE, NO-ENDS, NO-BALANCE, OVERLOAD, LATE, ref
 use Rattle.terms.specs.declared.refusal.Place.the-variants.{Mode as AtMode, Actor as AtActor, Processor as AtProcessor}
 use Rattle.terms.specs.declared.refusal.Refusal.{Refusal}
 use Rattle.terms.specs.Place.{numberOf}
-use Rattle.tables.specs.declared.Mode.{Mode}
-use Rattle.tables.specs.declared.Table.{Table}
-use Rattle.tables.specs.Shape.{modeAt, Active}
+use Rattle.tables.specs.Shape.{Mode, Table, modeAt, Active}
 use Rattle.graph.specs.Order.{Cyclic}
 use Rattle.graph.specs.Ends.{Ends, NoEnds}
 use Rattle.graph.specs.Balance.{Smallest, Iteration, Unbalanced, firingsOf}

@@ -8,9 +8,7 @@ use Rattle.numbers.specs.Tab.{tab}
 use Rattle.units.specs.Limits.{MODES}
 use Rattle.terms.specs.Place.{numberOf}
 use Rattle.terms.specs.declared.refusal.Refusal.{Refusal}
-use Rattle.tables.specs.declared.Mode.{Mode}
-use Rattle.tables.specs.declared.Table.{Table}
-use Rattle.tables.specs.Shape.{modeAt}
+use Rattle.tables.specs.Shape.{Mode, Table, modeAt}
 use Rattle.change.specs.Work.{Running}
 use Rattle.graph.specs.declared.Judgement.{Judgement}
 use Rattle.schedule.specs.declared.Timetable.{Timetable}

@@ -15,9 +15,7 @@ use Rattle.units.specs.Limits.{MODES, ACTORS, CHANNELS, ITERATION-LIMIT}
 use Rattle.terms.specs.Place.{numberOf}
 use Rattle.terms.specs.Text.{bytes}
 use Rattle.terms.specs.declared.refusal.Printed.{Printed}
-use Rattle.tables.specs.Shape.{channelAt, modeAt}
-use Rattle.tables.specs.declared.Mode.{Mode}
-use Rattle.tables.specs.declared.Table.{Table}
+use Rattle.tables.specs.Shape.{Mode, Table, channelAt, modeAt}
 use Rattle.csv.specs.Decimal.{decimal}
 use Rattle.csv.specs.Writing.{joined}
 use Rattle.change.specs.declared.Timing.{Timing}

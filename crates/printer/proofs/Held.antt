@@ -11,9 +11,8 @@ use Rattle.units.specs.Limits.{MODES, ACTORS, CHANNELS}
 use Rattle.units.specs.Firings.{firing}
 use Rattle.units.specs.Ticks.{tick}
 use Rattle.units.specs.Tokens.{token}
-use Rattle.tables.specs.Shape.{noMode, noChannel, modeAt, channelAt}
+use Rattle.tables.specs.Shape.{Mode, noMode, noChannel, modeAt, channelAt}
 use Rattle.tables.specs.declared.Channel.{Channel}
-use Rattle.tables.specs.declared.Mode.{Mode}
 use Rattle.tables.specs.declared.memory.Head.{Head}
 use Rattle.tables.specs.declared.memory.Times.{Times}
 use Rattle.tables.specs.Memory.{FRONT-WORDS, CHANNEL-BYTES, headIn, timesIn, channelIn}

@@ -8,7 +8,7 @@ use native.Mathlib.Omega.{arith}
 use lib.ListN.{length}
 use Rattle.csv.specs.Grammar.{plain, FirstRecord, last, as-is, over}
 use Rattle.terms.specs.declared.refusal.Place.the-variants.{Row as AtRow}
-use Rattle.tables.specs.declared.Table.{Table}
+use Rattle.tables.specs.Shape.{Table}
 use Rattle.tables.specs.Proper.{ProperTable}
 use Rattle.reader.specs.declared.Answer.the-variants.{Read, Refused}
 use Rattle.reader.specs.Rows.{Row, contents, FirstOf, by-3, by-4, by-5, NoneOf, RowRefused, Passes}

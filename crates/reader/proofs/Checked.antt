@@ -12,8 +12,7 @@ use Rattle.numbers.specs.Bits.{Has}
 use Rattle.units.specs.Limits.{CHANNELS, PHASES}
 use Rattle.terms.specs.Place.{placeOf}
 use Rattle.tables.specs.declared.Actor.{Actor}
-use Rattle.tables.specs.declared.Mode.{Mode}
-use Rattle.tables.specs.Shape.{actorAt, modeAt}
+use Rattle.tables.specs.Shape.{Mode, actorAt, modeAt}
 use Rattle.reader.specs.declared.line.Line.{Line}
 use Rattle.reader.specs.Rows.{Row, ActorRow, ChannelRow, actor, channel, InRange, ActorInRange, ChannelInRange, Lists, ListedActor, Unfit, Refused3, Refused4, Refused5, by-3, by-4, by-5}
 use Rattle.reader.specs.Told.{tableOf}

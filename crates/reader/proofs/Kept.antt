@@ -11,8 +11,7 @@ use Rattle.numbers.specs.Padded.{padded, length-padded, padded-at}
 use Rattle.units.specs.Limits.{MODES, CHANNELS, PHASES, MOST-RATE}
 use Rattle.terms.specs.Place.{placeOf}
 use Rattle.tables.specs.declared.Actor.{Actor}
-use Rattle.tables.specs.declared.Mode.{Mode}
-use Rattle.tables.specs.Shape.{actorAt, modeAt, withActor, withChannel}
+use Rattle.tables.specs.Shape.{Mode, actorAt, modeAt, withActor, withChannel}
 use Rattle.tables.specs.Proper.{ProperRates, ProperMode, ProperTable}
 use Rattle.tables.specs.Grown.{empty-proper, actor-mode, channel-mode}
 use Rattle.reader.specs.Rows.{Row, ActorRow, ChannelRow, actor, channel, Rates, ActorInRange, ChannelInRange, Lists, ListedActor, channels, Unfit, Passes}

@@ -14,9 +14,7 @@ use Rattle.numbers.specs.Bits.{Has, has-adding, has-or-not, bit-zero}
 use Rattle.csv.specs.Numbers.{Between}
 use Rattle.units.specs.Limits.{MODES, ACTORS, CHANNELS}
 use Rattle.terms.specs.Place.{placeOf, numberOf}
-use Rattle.tables.specs.declared.Mode.{Mode}
-use Rattle.tables.specs.declared.Table.{Table}
-use Rattle.tables.specs.Shape.{noActor, noMode, emptyChannel, emptyMode, emptyTable, actorAt, modeAt, withActor, withChannel, withMode}
+use Rattle.tables.specs.Shape.{Mode, Table, noActor, noMode, emptyChannel, emptyMode, emptyTable, actorAt, modeAt, withActor, withChannel, withMode}
 use Rattle.reader.specs.Rows.{Row, ActorRow, ChannelRow, actor, channel, ActorInRange, InRange, Lists, ListedActor, channels, Passes}
 use Rattle.reader.specs.Told.{channelOf, listing, tableOf}
 

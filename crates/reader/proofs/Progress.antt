@@ -16,12 +16,10 @@ use Rattle.units.specs.Limits.{MODES, ACTORS, CHANNELS}
 use Rattle.terms.specs.Place.{placeOf}
 use Rattle.tables.specs.declared.Actor.{Actor as Stage}
 use Rattle.tables.specs.declared.Channel.{Channel}
-use Rattle.tables.specs.declared.Mode.{Mode}
-use Rattle.tables.specs.declared.Table.{Table}
 use Rattle.tables.specs.declared.memory.Head.{Head}
 use Rattle.tables.specs.Proper.{ProperMode}
 use Rattle.tables.specs.Memory.{FRONT-WORDS, CHANNELS-BYTES, TABLE-WORDS, TABLE-BYTES, headIn, actorIn, timesIn, channelIn as channelHeld, frontWords, channelsBytes, withActive, headOf, noTimes, frontOf, channelsOf, tableFronts, tableChannels}
-use Rattle.tables.specs.Shape.{actorAt, modeAt, emptyTable, withMode, withActor, withChannel}
+use Rattle.tables.specs.Shape.{Mode, Table, actorAt, modeAt, emptyTable, withMode, withActor, withChannel}
 use Rattle.tables.proofs.Remembered.{length-front, length-channels, front-head, front-actor, empty-fronts, empty-bytes, front-with-actor, channels-with-channel, memory-part, memory-put, memory-same}
 use Rattle.reader.specs.declared.Answer.{Answer}
 use Rattle.reader.specs.declared.Answer.the-variants.{Read}

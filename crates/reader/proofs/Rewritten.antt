@@ -19,9 +19,7 @@ use Rattle.units.specs.Limits.{MODES, ACTORS, CHANNELS, PHASES, MOST-RATE}
 use Rattle.terms.specs.Place.{placeOf, numberOf}
 use Rattle.tables.specs.declared.Actor.{Actor}
 use Rattle.tables.specs.declared.Channel.{Channel}
-use Rattle.tables.specs.declared.Mode.{Mode}
-use Rattle.tables.specs.declared.Table.{Table}
-use Rattle.tables.specs.Shape.{noActor, noChannel, noMode, emptyChannel, emptyMode, actorAt, channelAt, modeAt, withActor, withChannel, withMode}
+use Rattle.tables.specs.Shape.{Mode, Table, noActor, noChannel, noMode, emptyChannel, emptyMode, actorAt, channelAt, modeAt, withActor, withChannel, withMode}
 use Rattle.tables.specs.Proper.{ProperRates, ProperChannel, ProperMode, ProperTable}
 use Rattle.reader.specs.Rows.{Row, ActorRow, actor, channel, Rates, ActorInRange, ChannelInRange, InRange, Lists, ListedActor, Unfit, Passes}
 use Rattle.reader.specs.Told.{listing, tableOf}

@@ -12,9 +12,7 @@ use Rattle.numbers.specs.Bits.{hasb}
 use Rattle.csv.specs.Decimal.{decimal, spaced}
 use Rattle.csv.specs.Writing.{joined}
 use Rattle.units.specs.Limits.{MOST-BYTES, MODES, ACTORS, CHANNELS, PHASES}
-use Rattle.tables.specs.declared.Mode.{Mode}
-use Rattle.tables.specs.declared.Table.{Table}
-use Rattle.tables.specs.Shape.{actorAt, channelAt, modeAt}
+use Rattle.tables.specs.Shape.{Mode, Table, actorAt, channelAt, modeAt}
 use Rattle.tables.specs.Proper.{ProperMode, ProperTable}
 use Rattle.reader.specs.Rows.{Row, ActorRow, ChannelRow, actor, channel, Rates, ActorInRange, ChannelInRange, contents}
 use Rattle.reader.specs.Writing.{lineText, textOf, actorRow, channelRow, actorRows, channelRows, modeRows, rowsOf}

@@ -11,9 +11,8 @@ use Rattle.terms.specs.Place.{placeOf}
 use Rattle.terms.specs.Refusal.{UNREADABLE, BAD-FIELD}
 use Rattle.terms.specs.declared.refusal.Place.the-variants.{Row as AtRow}
 use Rattle.tables.specs.declared.Channel.{Channel}
-use Rattle.tables.specs.declared.Table.{Table}
 use Rattle.tables.specs.Memory.{TABLE-WORDS, TABLE-BYTES, tableFronts, tableChannels}
-use Rattle.tables.specs.Shape.{modeAt, emptyTable, withActor, withChannel, withMode}
+use Rattle.tables.specs.Shape.{Table, modeAt, emptyTable, withActor, withChannel, withMode}
 use Rattle.reader.specs.declared.Answer.{Answer}
 use Rattle.reader.specs.declared.Answer.the-variants.{Read, Refused}
 use Rattle.reader.specs.Rows.{Row, ChannelRow, actor, channel, InRange, contents, RowRefused, Passes}

@@ -8,9 +8,7 @@ use Rattle.csv.specs.Writing.{joined}
 use Rattle.units.specs.Limits.{MODES, ACTORS}
 use Rattle.terms.specs.Place.{numberOf}
 use Rattle.tables.specs.declared.Channel.{Channel}
-use Rattle.tables.specs.declared.Mode.{Mode}
-use Rattle.tables.specs.declared.Table.{Table}
-use Rattle.tables.specs.Shape.{actorAt, channelAt, modeAt}
+use Rattle.tables.specs.Shape.{Mode, Table, actorAt, channelAt, modeAt}
 use Rattle.reader.specs.Rows.{Row, ActorRow, ChannelRow, actor, channel, contents}
 
 -- a row with its CRLF

@@ -17,8 +17,7 @@ use Rattle.units.specs.Limits.{ACTORS, CHANNELS}
 use Rattle.units.specs.declared.Tick.{Tick}
 use Rattle.units.specs.Ticks.{tick, greaterTick}
 use Rattle.tables.specs.declared.Channel.{Channel}
-use Rattle.tables.specs.declared.Mode.{Mode}
-use Rattle.tables.specs.Shape.{channelAt}
+use Rattle.tables.specs.Shape.{Mode, channelAt}
 use Rattle.graph.specs.Judged.{ofActors}
 use Rattle.channel.specs.Flow.{Fed}
 use Rattle.channel.specs.Laws.{cycle-p, cycle-c, period-p, start-within, fed-later, fed-earlier}

@@ -6,7 +6,7 @@ use native.Mathlib.Omega.{arith}
 use Rattle.units.specs.Bounds.{MOST-WAIT, MOST-START}
 use Rattle.units.specs.Limits.{ACTORS}
 use Rattle.units.specs.declared.Tick.{Tick}
-use Rattle.tables.specs.declared.Mode.{Mode}
+use Rattle.tables.specs.Shape.{Mode}
 use Rattle.tables.specs.Proper.{ProperMode}
 use Rattle.graph.specs.declared.Verdict.the-variants.{Sound as IsSound}
 use Rattle.graph.specs.declared.Judgement.{Judgement}

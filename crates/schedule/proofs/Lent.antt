@@ -11,8 +11,7 @@ use Rattle.units.specs.Ticks.{tick}
 use Rattle.rate.specs.Rate.{tokensOf}
 use Rattle.tables.specs.declared.Actor.{Actor}
 use Rattle.tables.specs.declared.Channel.{Channel}
-use Rattle.tables.specs.declared.Mode.{Mode}
-use Rattle.tables.specs.Shape.{actorAt, channelAt}
+use Rattle.tables.specs.Shape.{Mode, actorAt, channelAt}
 use Rattle.tables.specs.Memory.{headIn, actorIn, channelIn, modeIn, Stands}
 use Rattle.graph.proofs.Lent.{actor-read, channel-read, channel-proper}
 use Rattle.channel.specs.declared.End.{End}

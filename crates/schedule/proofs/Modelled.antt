@@ -17,8 +17,7 @@ use Rattle.numbers.specs.Tab.{length-tab, getD-tab}
 use Rattle.units.specs.Limits.{ACTORS, CHANNELS}
 use Rattle.units.specs.declared.Tick.{Tick}
 use Rattle.units.specs.Tokens.{token}
-use Rattle.tables.specs.declared.Mode.{Mode}
-use Rattle.tables.specs.Shape.{channelAt}
+use Rattle.tables.specs.Shape.{Mode, channelAt}
 use Rattle.tables.specs.Proper.{ProperMode}
 use Rattle.graph.specs.declared.Verdict.the-variants.{Sound as IsSound}
 use Rattle.graph.specs.declared.Judgement.{Judgement}

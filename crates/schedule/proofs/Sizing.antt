@@ -13,7 +13,7 @@ use Rattle.units.specs.Limits.{CHANNELS}
 use Rattle.units.specs.declared.Tick.{Tick}
 use Rattle.units.specs.declared.Token.{Token}
 use Rattle.units.specs.Tokens.{token}
-use Rattle.tables.specs.declared.Mode.{Mode}
+use Rattle.tables.specs.Shape.{Mode}
 use Rattle.schedule.specs.Scheduled.{ofChannels, SizeOn, Sizes}
 
 -- a table that is filled for the channels of a mode

@@ -19,8 +19,7 @@ use Rattle.units.specs.Ticks.{tick, timesTicks}
 use Rattle.units.specs.Firings.{firing}
 use Rattle.period.specs.Period.{periodOf}
 use Rattle.rate.specs.Rate.{rateOf, rate-in}
-use Rattle.tables.specs.declared.Mode.{Mode}
-use Rattle.tables.specs.Shape.{actorAt, channelAt, Active}
+use Rattle.tables.specs.Shape.{Mode, actorAt, channelAt, Active}
 use Rattle.tables.specs.Proper.{ProperMode, ProperRates}
 use Rattle.graph.specs.declared.Verdict.{Verdict}
 use Rattle.graph.specs.declared.Verdict.the-variants.{Cyclic as IsCyclic, Ends as HasNoEnds, Unbalanced as IsUnbalanced, Overloaded as IsOverloaded, Sound as IsSound}

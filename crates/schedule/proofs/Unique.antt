@@ -13,7 +13,7 @@ use Rattle.units.specs.declared.Tick.{Tick}
 use Rattle.units.specs.declared.Token.{Token}
 use Rattle.units.specs.Ticks.{tick}
 use Rattle.units.specs.Tokens.{token}
-use Rattle.tables.specs.declared.Mode.{Mode}
+use Rattle.tables.specs.Shape.{Mode}
 use Rattle.graph.specs.declared.Judgement.{Judgement}
 use Rattle.schedule.specs.declared.Timetable.{Timetable}
 use Rattle.schedule.specs.Starts.{Starts, Late}

@@ -15,8 +15,7 @@ use Rattle.units.specs.Ticks.{tick}
 use Rattle.units.specs.Tokens.{token}
 use Rattle.units.specs.Firings.{firing}
 use Rattle.rate.specs.Rate.{tokensOf}
-use Rattle.tables.specs.declared.Mode.{Mode}
-use Rattle.tables.specs.Shape.{actorAt, channelAt}
+use Rattle.tables.specs.Shape.{Mode, actorAt, channelAt}
 use Rattle.graph.specs.declared.Judgement.{Judgement}
 use Rattle.graph.specs.Judged.{ofActors}
 use Rattle.channel.specs.Flow.{IsSize}

@@ -7,8 +7,7 @@ use Rattle.units.specs.declared.Tick.{Tick}
 use Rattle.units.specs.Ticks.{tick}
 use Rattle.tables.specs.declared.Actor.{Actor}
 use Rattle.tables.specs.declared.Channel.{Channel}
-use Rattle.tables.specs.declared.Mode.{Mode}
-use Rattle.tables.specs.Shape.{actorAt, channelAt, Active}
+use Rattle.tables.specs.Shape.{Mode, actorAt, channelAt, Active}
 use Rattle.channel.specs.declared.End.{End}
 use Rattle.channel.specs.Flow.{Fed}
 

@@ -15,9 +15,7 @@ use Rattle.numbers.specs.Decides.{Decides}
 use Rattle.numbers.specs.Tab.{length-tab, getD-tab, getD-replicated}
 use Rattle.units.specs.Limits.{MODES, ACTORS}
 use Rattle.tables.specs.declared.Actor.{Actor}
-use Rattle.tables.specs.declared.Mode.{Mode}
-use Rattle.tables.specs.declared.Table.{Table}
-use Rattle.tables.specs.Shape.{actorAt, modeAt}
+use Rattle.tables.specs.Shape.{Mode, Table, actorAt, modeAt}
 use Rattle.tables.specs.Proper.{ProperMode, ProperTable}
 use Rattle.tables.specs.Parts.{AtHome, homeOf, housedOf}
 

@@ -17,11 +17,9 @@ use Rattle.units.specs.Ticks.{tick}
 use Rattle.units.specs.Limits.{MODES, ACTORS, CHANNELS, PHASES}
 use Rattle.tables.specs.declared.Actor.{Actor}
 use Rattle.tables.specs.declared.Channel.{Channel}
-use Rattle.tables.specs.declared.Mode.{Mode}
-use Rattle.tables.specs.declared.Table.{Table}
 use Rattle.tables.specs.declared.memory.Head.{Head}
 use Rattle.tables.specs.declared.memory.Times.{Times}
-use Rattle.tables.specs.Shape.{noActor, noChannel, noMode, emptyMode, emptyTable, actorAt, channelAt, modeAt, withActor, withChannel, withMode}
+use Rattle.tables.specs.Shape.{Mode, Table, noActor, noChannel, noMode, emptyMode, emptyTable, actorAt, channelAt, modeAt, withActor, withChannel, withMode}
 use Rattle.tables.specs.Proper.{ProperMode, ProperTable}
 use Rattle.tables.specs.Memory.{HEAD-WORDS, ACTOR-WORDS, FRONT-WORDS, CHANNEL-BYTES, CHANNELS-BYTES, TABLE-WORDS, TABLE-BYTES, actorsAt, channelsAt, headWords, actorWords, frontWords, rateWords, channelBytes, channelsBytes, headIn, actorIn, timesIn, timesOf, channelIn, modeIn, noTimes, headOf, frontOf, channelsOf, tableFronts, tableChannels, tableIn, withActive}
 

@@ -6,8 +6,6 @@ use denote.Triple.Clauses.{AtExit}
 use borrow.Fn.Kinds.{Dens, resT, endedOf}
 use Rattle.numbers.proofs.Settles.{Settles}
 use Rattle.numbers.specs.Decides.{decides-unique}
-use Rattle.tables.proofs.empty.Kinds as empty-kinds
-use Rattle.tables.proofs.empty.Reads as empty
 use Rattle.tables.proofs.homes.at_home.Kinds as at-home-kinds
 use Rattle.tables.proofs.homes.at_home.Reads as at-home
 use Rattle.tables.proofs.homes.housed.Kinds as housed-kinds
@@ -32,9 +30,6 @@ use Rattle.tables.proofs.memory.clear_bytes.Kinds as clear-bytes-kinds
 use Rattle.tables.proofs.memory.clear_bytes.Reads as clear-bytes
 use Rattle.tables.proofs.proper.proper_mode.Kinds as proper-mode-kinds
 use Rattle.tables.proofs.proper.proper_mode.Reads as proper-mode
-
-empty-settled : Settles 0 empty-kinds.ps empty-kinds.r empty.Post
-empty-settled κs a x y s t p q = p ∙ sym q
 
 at-home-settled : Settles 1 at-home-kinds.ps at-home-kinds.r at-home.Post
 at-home-settled κs a x y s t p q = decides-unique x y p q

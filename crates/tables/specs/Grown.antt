@@ -12,8 +12,7 @@ use Rattle.numbers.specs.Bits.{Has, has-adding, bit-zero}
 use Rattle.units.specs.Limits.{ACTORS, CHANNELS}
 use Rattle.tables.specs.declared.Actor.{Actor}
 use Rattle.tables.specs.declared.Channel.{Channel}
-use Rattle.tables.specs.declared.Mode.{Mode}
-use Rattle.tables.specs.Shape.{noActor, noChannel, emptyChannel, emptyMode, actorAt, channelAt, withActor, withChannel}
+use Rattle.tables.specs.Shape.{Mode, noActor, noChannel, emptyChannel, emptyMode, actorAt, channelAt, withActor, withChannel}
 use Rattle.tables.specs.Proper.{ProperActor, ProperRates, ProperChannel, ProperMode}
 
 -- a mode in which nothing is listed

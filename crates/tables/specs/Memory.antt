@@ -11,11 +11,9 @@ use Rattle.units.specs.Firings.{firing}
 use Rattle.units.specs.Ticks.{tick}
 use Rattle.tables.specs.declared.Actor.{Actor}
 use Rattle.tables.specs.declared.Channel.{Channel}
-use Rattle.tables.specs.declared.Mode.{Mode}
-use Rattle.tables.specs.declared.Table.{Table}
 use Rattle.tables.specs.declared.memory.Head.{Head}
 use Rattle.tables.specs.declared.memory.Times.{Times}
-use Rattle.tables.specs.Shape.{actorAt, channelAt, modeAt}
+use Rattle.tables.specs.Shape.{Mode, Table, actorAt, channelAt, modeAt}
 use Rattle.tables.specs.Proper.{ProperMode}
 
 -- how many words a mode's own numbers, an actor and a front have, and how many bytes a channel and all channels

@@ -9,8 +9,7 @@ use Rattle.numbers.specs.Bits.{Has}
 use Rattle.numbers.specs.Tab.{tab}
 use Rattle.units.specs.Limits.{ACTORS, PHASES, MOST-RATE}
 use Rattle.tables.specs.declared.Actor.{Actor}
-use Rattle.tables.specs.declared.Mode.{Mode}
-use Rattle.tables.specs.Shape.{noActor, emptyChannel, actorAt, channelAt}
+use Rattle.tables.specs.Shape.{Mode, noActor, emptyChannel, actorAt, channelAt}
 use Rattle.tables.specs.Proper.{ProperActor, ProperChannel}
 
 -- an array of rates

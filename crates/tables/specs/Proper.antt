@@ -7,9 +7,7 @@ use Rattle.numbers.specs.Bits.{Has}
 use Rattle.units.specs.Limits.{MODES, ACTORS, CHANNELS, PHASES, MOST-WCET, MOST-RATE, PROCESSORS}
 use Rattle.tables.specs.declared.Actor.{Actor}
 use Rattle.tables.specs.declared.Channel.{Channel}
-use Rattle.tables.specs.declared.Mode.{Mode}
-use Rattle.tables.specs.declared.Table.{Table}
-use Rattle.tables.specs.Shape.{noActor, emptyChannel, actorAt, channelAt, modeAt}
+use Rattle.tables.specs.Shape.{Mode, Table, noActor, emptyChannel, actorAt, channelAt, modeAt}
 
 -- an actor in its ranges
 pub record ProperActor (a : Actor) : Type 0 where

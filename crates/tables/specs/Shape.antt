@@ -1,13 +1,21 @@
 -- A table in memory: what stands where, and how a mode grows by an actor or a channel.
-use mathlib.Core.List.{[]}
+use mathlib.Core.List.{List, []}
 use Prim.Native.Nat.{ℕ, _+_, _<_}
 use lib.ListN.{getD, set, replicate}
 use Rattle.numbers.specs.Bits.{Has, adding}
 use Rattle.units.specs.Limits.{MODES, ACTORS, CHANNELS, PHASES}
 use Rattle.tables.specs.declared.Actor.{Actor}
 use Rattle.tables.specs.declared.Channel.{Channel}
-use Rattle.tables.specs.declared.Mode.{Mode}
-use Rattle.tables.specs.declared.Table.{Table}
+
+-- a mode: the set of its active actors, how many channels it has, what each actor is, and the channels in the order in which they are listed
+pub record Mode : Type 0 where
+  pub active : ℕ
+  pub count : ℕ
+  pub actors : List Actor
+  pub channels : List Channel
+
+pub record Table : Type 0 where
+  pub modes : List Mode
 
 -- what stands past the end of an array
 abbrev pub noActor : Actor

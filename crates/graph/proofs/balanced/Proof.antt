@@ -7,7 +7,7 @@ use mathlib.Core.List.{List}
 use Prim.Native.Nat.{ℕ, _*_}
 use lib.ListN.{length}
 use Rattle.units.specs.Limits.{ACTORS}
-use Rattle.tables.specs.declared.Mode.{Mode}
+use Rattle.tables.specs.Shape.{Mode}
 use Rattle.tables.specs.Memory.{modeIn}
 use Rattle.graph.specs.declared.balance.Counts.{Counts}
 use Rattle.graph.specs.declared.Verdict.the-variants.{Unbalanced}

@@ -3,7 +3,7 @@ use borrow.Author.Needs.{needs}
 use mathlib.Core.Path.{_≡_, sym, ap, ap₂, subst, subst₂, _∙_}
 use Rattle.numbers.specs.Bits.{size}
 use Rattle.units.specs.Limits.{ACTORS}
-use Rattle.tables.specs.declared.Mode.{Mode}
+use Rattle.tables.specs.Shape.{Mode}
 use Rattle.tables.specs.declared.memory.Head.{Head}
 use Rattle.tables.specs.Proper.{ProperMode}
 use Rattle.tables.specs.Memory.{modeIn}

@@ -11,7 +11,7 @@ use Rattle.units.specs.declared.Firing.{Firing}
 use Rattle.units.specs.Limits.{PROCESSORS}
 use Rattle.period.specs.declared.Length.the-variants.{Is}
 use Rattle.tables.specs.declared.Actor.{Actor}
-use Rattle.tables.specs.declared.Mode.{Mode}
+use Rattle.tables.specs.Shape.{Mode}
 use Rattle.tables.specs.declared.memory.Head.{Head}
 use Rattle.tables.specs.Proper.{ProperMode}
 use Rattle.tables.specs.Memory.{modeIn}

@@ -4,7 +4,7 @@ use mathlib.Core.Path.{refl, sym, subst}
 use Prim.Native.Nat.{_<_}
 use native.Mathlib.Omega.{arith}
 use Rattle.units.specs.Limits.{ACTORS}
-use Rattle.tables.specs.declared.Mode.{Mode}
+use Rattle.tables.specs.Shape.{Mode}
 use Rattle.tables.specs.declared.memory.Head.{Head}
 use Rattle.tables.specs.Memory.{modeIn}
 use Rattle.graph.specs.Lengths.{Few}

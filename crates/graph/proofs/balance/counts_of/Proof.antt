@@ -11,9 +11,8 @@ use Rattle.numbers.specs.Decides.{decides-true}
 use Rattle.numbers.specs.Extreme.{greatest-below}
 use Rattle.units.specs.Limits.{ACTORS}
 use Rattle.tables.specs.declared.Channel.{Channel}
-use Rattle.tables.specs.declared.Mode.{Mode}
 use Rattle.tables.specs.declared.memory.Head.{Head}
-use Rattle.tables.specs.Shape.{channelAt, Active}
+use Rattle.tables.specs.Shape.{Mode, channelAt, Active}
 use Rattle.tables.specs.Proper.{ProperChannel}
 use Rattle.tables.specs.Memory.{actorIn, modeIn}
 use Rattle.graph.specs.declared.balance.Counts.{Counts}

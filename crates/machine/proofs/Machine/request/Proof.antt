@@ -12,7 +12,7 @@ use Rattle.run.specs.Plan.{RunPlan}
 use Rattle.run.specs.Machine.{Machine, Request}
 use Rattle.run.proofs.Delay.{Accepted}
 use Rattle.machine.specs.Plan.{planOf}
-use Rattle.tables.specs.declared.Table.{Table}
+use Rattle.tables.specs.Shape.{Table}
 use Rattle.planning.specs.Shape.{Plan}
 use Rattle.planner.specs.Plans.{Stored, Leaves}
 use Rattle.planner.proofs.Leaving.{stored-leaves}

@@ -7,7 +7,7 @@ use mathlib.Core.List.{List}
 use Prim.Native.Nat.{ℕ}
 use lib.ListN.{getD, take, length-take}
 use Rattle.numbers.specs.Decides.{decides-no, decides-true, decides-false}
-use Rattle.tables.specs.declared.Mode.{Mode}
+use Rattle.tables.specs.Shape.{Mode}
 use Rattle.tables.specs.Proper.{ProperMode}
 use Rattle.tables.specs.Memory.{FRONT-WORDS, modeIn}
 use Rattle.planning.specs.declared.Answer.{Answer}

@@ -4,7 +4,7 @@ use mathlib.Core.Path.{_≡_, refl, sym, ap, subst, _∙_}
 use lib.ListN.{length}
 use native.Mathlib.Omega.{arith}
 use lib.ListN.{getD}
-use Rattle.tables.specs.declared.Mode.{Mode}
+use Rattle.tables.specs.Shape.{Mode}
 use Rattle.tables.specs.Memory.{modeIn, Stands}
 use Rattle.planning.specs.declared.Answer.{Answer}
 use Rattle.planning.specs.OneMode.{Comes}

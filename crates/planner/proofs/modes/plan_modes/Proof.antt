@@ -6,7 +6,7 @@ use Prim.Native.Nat.{ℕ, _+_, _-_, _*_, _≤_}
 use native.Mathlib.Omega.{arith}
 use lib.ListN.{length, length-take, length-drop}
 use Rattle.units.specs.Limits.{MODES}
-use Rattle.tables.specs.declared.Table.{Table}
+use Rattle.tables.specs.Shape.{Table}
 use Rattle.tables.specs.Memory.{TABLE-WORDS, TABLE-BYTES, tableIn}
 use Rattle.layout.specs.Blocks.{CARRIED-WORDS}
 use Rattle.planner.proofs.Coming.{Coming, coming-none, coming-fresh, coming-next, coming-refused, coming-all, channels-long}

@@ -2,7 +2,7 @@
 use borrow.Author.Needs.{needs}
 use mathlib.Core.Path.{refl, sym, subst}
 use native.Mathlib.Omega.{arith}
-use Rattle.tables.specs.declared.Mode.{Mode}
+use Rattle.tables.specs.Shape.{Mode}
 use Rattle.tables.specs.Memory.{modeIn}
 use Rattle.planning.specs.declared.modes.Piece.{Piece}
 use Rattle.planning.specs.Plan.{ModePlanned}

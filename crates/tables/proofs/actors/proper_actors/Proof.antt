@@ -11,9 +11,8 @@ use Rattle.numbers.specs.All.{Below}
 use Rattle.numbers.specs.Bits.{Has}
 use Rattle.numbers.specs.Decides.{Decides, decides-yes, decides-no, decides-true, decides-false}
 use Rattle.units.specs.Limits.{ACTORS}
-use Rattle.tables.specs.declared.Mode.{Mode}
 use Rattle.tables.specs.declared.memory.Head.{Head}
-use Rattle.tables.specs.Shape.{actorAt}
+use Rattle.tables.specs.Shape.{Mode, actorAt}
 use Rattle.tables.specs.Proper.{ProperActor}
 use Rattle.tables.specs.Memory.{modeIn}
 use Rattle.tables.specs.Parts.{ActorStands}

@@ -14,9 +14,8 @@ use Rattle.numbers.specs.Decides.{Decides, decides-yes, decides-no, decides-tru
 use Rattle.units.specs.Limits.{ACTORS, CHANNELS}
 use Rattle.tables.specs.declared.Actor.{Actor}
 use Rattle.tables.specs.declared.Channel.{Channel}
-use Rattle.tables.specs.declared.Mode.{Mode}
 use Rattle.tables.specs.declared.memory.Head.{Head}
-use Rattle.tables.specs.Shape.{actorAt, channelAt}
+use Rattle.tables.specs.Shape.{Mode, actorAt, channelAt}
 use Rattle.tables.specs.Proper.{ProperRates, ProperChannel}
 use Rattle.tables.specs.Memory.{headIn, modeIn}
 use Rattle.tables.specs.Parts.{ChannelStands}
