@@ -1,5 +1,4 @@
 -- Each public function's statement admits one answer only.
-use mathlib.Core.Logic.{Iff·symm, Iff·trans}
 use mathlib.Core.Path.{sym, _∙_}
 use Rattle.numbers.proofs.Settles.{Settles}
 use Rattle.numbers.specs.Bits.{with-is, without-is}

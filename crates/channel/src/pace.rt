@@ -5,7 +5,6 @@ use rate::pace::step_of;
 use units::Tick;
 use units::Token;
 ghost use mathlib.Core.Path.{_≡_};
-ghost use Prim.Native.Nat.{_≤_};
 ghost use Rattle.channel.specs.Flow.{Proper, Paced, cycleTokens, cycleTicks};
 ghost use Rattle.channel.specs.Phases.{paceOf};
 ghost use Rattle.channel.specs.Bounds.{Brief, Adds};

@@ -10,8 +10,8 @@ use borrow.Author.Tests.{lt-ltb, le-ltb}
 use lib.Dec.{ltb, eqb}
 use lib.ListN.{length, length-append, getD, set, take, drop, length-take, length-drop, replicate, length-replicate}
 use lib.Seq.{take-all, drop-at, getD-take}
-use Rattle.numbers.specs.Joined.{joined, part, joined-same, length-joined, joined-part, getD-joined}
-use Rattle.numbers.specs.Tab.{tab, is-tab, tab-same, stretchOf}
+use Rattle.numbers.specs.Joined.{joined, part, joined-same, length-joined, joined-part}
+use Rattle.numbers.specs.Tab.{tab, is-tab}
 use Rattle.numbers.proofs.Laid.{Laid, laid-none, laid-put, laid-all, put-two, part-is, parts-joined, joined-put, stretch-joined, joined-zeros}
 use Rattle.units.specs.Limits.{ACTORS, CHANNELS}
 use Rattle.units.specs.declared.Tick.{Tick}

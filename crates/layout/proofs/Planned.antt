@@ -1,10 +1,8 @@
 -- The words of a plan hold it. Assumes nothing.
 use mathlib.Core.Path.{_≡_, refl, sym, ap, ap₂, _∙_}
 use mathlib.Core.List.{List}
-use Prim.Native.Nat.{ℕ, _*_, _^_, _<_}
-use native.Mathlib.Nat.{lt-of-lt-of-le}
-use native.Mathlib.Omega.{arith}
-use lib.ListN.{length, getD, take, drop}
+use Prim.Native.Nat.{ℕ, _^_, _<_}
+use lib.ListN.{getD}
 use lib.Seq.{take-at, drop-at}
 use Rattle.numbers.specs.Joined.{joined, part, joined-part}
 use Rattle.numbers.specs.Tab.{tab, is-tab}
@@ -15,14 +13,14 @@ use Rattle.units.specs.Tokens.{token}
 use Rattle.tables.specs.declared.memory.Head.{Head}
 use Rattle.tables.specs.declared.memory.Times.{Times}
 use Rattle.tables.specs.Shape.{Mode, Table, modeAt, actorAt}
-use Rattle.tables.specs.Proper.{ProperMode, ProperTable}
-use Rattle.tables.specs.Memory.{FRONT-WORDS, headOf, headIn, timesIn}
+use Rattle.tables.specs.Proper.{ProperTable}
+use Rattle.tables.specs.Memory.{FRONT-WORDS, headOf, timesIn}
 use Rattle.tables.proofs.Remembered.{front-head, front-times}
 use Rattle.change.specs.Running.{startupIn}
 use Rattle.planning.specs.declared.ModePlan.{ModePlan}
 use Rattle.planning.specs.Shape.{Plan}
-use Rattle.planning.specs.Nothing.{noPart, emptyPart, noTiming}
-use Rattle.planning.specs.Plan.{partAt, Listed, ModePlanned, IsPart, Planned}
+use Rattle.planning.specs.Nothing.{noPart, noTiming}
+use Rattle.planning.specs.Plan.{partAt, Listed, IsPart, Planned}
 use Rattle.planning.proofs.Bounds.{SmallPart, part-small}
 use Rattle.planning.proofs.Running.{startup-sink}
 use Rattle.planning.proofs.Unique.{listed-or-not}

@@ -7,7 +7,7 @@ use native.Mathlib.Nat.{mod-eq-of-lt}
 use native.Mathlib.Omega.{arith}
 use native.Mathlib.Decide.{decLt}
 use lib.Dec.{eqb}
-use lib.ListN.{length, getD, take, drop, replicate, length-append, List·getD-append}
+use lib.ListN.{length, getD, drop, replicate, length-append, List·getD-append}
 use lib.Seq.{take-at, drop-at}
 use Rattle.numbers.specs.Joined.{joined, part, length-joined, joined-same, part-joined, joined-part, getD-joined}
 use Rattle.numbers.specs.Tab.{tab, length-tab, is-tab, tab-at, getD-replicated}

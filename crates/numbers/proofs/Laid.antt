@@ -1,7 +1,7 @@
 -- A list that is filled, or found to be filled, from the front.
 use mathlib.Core.Path.{_≡_, refl, sym, ap, ap₂, subst, _∙_}
 use mathlib.Core.List.{List, [], _++_, append-assoc, append-nil}
-use mathlib.Core.Logic.{_↔_, _⊎_, inl, inr}
+use mathlib.Core.Logic.{_⊎_, inl, inr}
 use Prim.Native.Nat.{ℕ, zero, suc, _+_, _-_, _*_, _≤_, _<_}
 use native.Mathlib.Nat.{add-zero, add-suc, mul-zero, mul-suc, mul-le-mul-left, le-of-eq, le-of-suc-le-suc, not-suc-le-zero, eq-or-lt-of-le}
 use native.Mathlib.Omega.{arith}
@@ -50,14 +50,6 @@ pub put-two : {A : Type 0} (a k : ℕ) (p q w x y : List A) → length w ≡ a +
 put-two a k p q w x y h e g f s =
     laid-all (laid-put a k s (laid-put 0 a f (laid-none h) refl e (omega arith)) e g (omega arith)) (length-append p q ∙ ap₂ _+_ e g)
 
--- a list of two parts, the first of which is p, is p with q behind it exactly when the other is q
-pub two-parts : {A : Type 0} (a k : ℕ) (p q w : List A) → length p ≡ a → length q ≡ k → length w ≡ a + k → take a w ≡ p
-    → (take k (drop a w) ≡ q) ↔ (w ≡ p ++ q)
-two-parts a k p q w e g h f = (
-  λ s. laid-all (laid-same a k q (laid-same 0 a p (laid-none h) refl e f) e g s) (length-append p q ∙ ap₂ _+_ e g),
-  λ s. ap (λ l. take k (drop a l)) s ∙ ap (take k) (drop-at p q a e) ∙ take-all k q (le-of-eq g),
-)
-
 -- the same of n parts of k elements: in the first i of them stand the first i of the lists that are joined
 abbrev pub Begun : {A : Type 0} → ℕ → (ℕ → List A) → ℕ → List A → ℕ → Type 0
 Begun k f n w i = Laid (k * n) (joined i f) w
@@ -72,9 +64,6 @@ module _ {A : Type 0} (k : ℕ) (f : ℕ → List A) (each : (i : ℕ) → lengt
       let wide : k * i + k - k * i ≡ k = omega arith in
       rw (joined-next k f each i, wide)
       (laid-put (k * i) k g l (length-joined k f each i) (each i) (omega (arith, mul-le-mul-left k h, mul-suc k i)))
-
-  pub begun-same : (w : List A) (i : ℕ) → part k i w ≡ f i → Begun k f n w i → Begun k f n w (i + 1)
-  begun-same w i g l = rw (joined-next k f each i) (laid-same (k * i) k (f i) l (length-joined k f each i) (each i) g)
 
   pub begun-all : (w : List A) (i : ℕ) → i ≡ n → Begun k f n w i → w ≡ joined n f
   begun-all w i e l = laid-all (subst (λ (j : ℕ). Begun k f n w j) e l) (length-joined k f each n)

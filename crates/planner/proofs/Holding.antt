@@ -3,10 +3,9 @@ use mathlib.Core.Path.{_≡_, refl, sym, ap, ap₂, subst, _∙_}
 use mathlib.Core.Bool.{Bool}
 use mathlib.Core.List.{List, [], _++_, append-nil}
 use Prim.Native.Nat.{ℕ, _+_, _-_, _*_, _<_}
-use native.Mathlib.Decide.{ℕ-discrete}
 use native.Mathlib.Omega.{arith}
 use lib.ListN.{length, getD, take, drop, length-take, take-append-drop}
-use lib.Seq.{take-at, drop-at, take-all, take-take, take-append-le, drop-append-le}
+use lib.Seq.{take-at, take-all, take-take}
 use borrow.Author.Count.{below-more}
 use Rattle.numbers.specs.All.{Below}
 use Rattle.numbers.specs.Decides.{Decides}
@@ -28,7 +27,7 @@ use Rattle.planning.specs.declared.ModePlan.{ModePlan}
 use Rattle.planning.specs.declared.Answer.the-variants.{Planned as IsPlanned}
 use Rattle.planning.specs.Shape.{Plan}
 use Rattle.planning.specs.Nothing.{noPart, emptyPart}
-use Rattle.planning.specs.Plan.{partAt, Listed, ModePlanned, IsPart, Planned}
+use Rattle.planning.specs.Plan.{partAt, IsPart, Planned}
 use Rattle.planning.specs.Changes.{runningOf, FoundChanges}
 use Rattle.planning.specs.Steps.{AnyComes, FoundParts, runningsOf}
 use Rattle.planning.proofs.Running.{listed-some, listed-none, mode-ready, small-fitting}
@@ -37,10 +36,10 @@ use Rattle.planning.proofs.Unique.{plan-unique}
 use Rattle.layout.specs.Words.{MODE-WORDS, WORDS, plannedFront, modeWords, modeWordsAt, modesWords, changesWords, wordsOf}
 use Rattle.layout.specs.Read.{modeOf, partOf, graphOf, planOf}
 use Rattle.layout.specs.Laws.{length-planned, length-mode-at, length-modes, changes-words, graph-front}
-use Rattle.planner.specs.Plans.{Stored, Leaves}
+use Rattle.planner.specs.Plans.{Stored}
 use Rattle.planner.specs.Held.{Held, HeldModes}
 use Rattle.planner.specs.Changes.{MODES-WORDS, frontAt, runningsIn, Runs}
-use Rattle.planner.proofs.Leaving.{leaves-stored, stored-leaves, leaves-proper, leaves-long, leaves-graph, holds-leaves}
+use Rattle.planner.proofs.Leaving.{leaves-stored, stored-leaves, leaves-proper, holds-leaves}
 use Rattle.planner.proofs.Blank.{part-sound, words-held, planned-runs}
 
 -- the words of a mode that they hold

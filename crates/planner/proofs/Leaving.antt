@@ -56,12 +56,7 @@ module _ {t : Table} {w : Plan} {words : List ℕ} (l : Leaves t w words) where
   leaves-held : planOf words ≡ w
   leaves-held = ap planOf (l .left) ∙ plan-back t w leaves-proper (l .planned)
 
--- what is stored is left by the table that it holds
-pub stored-held : {words : List ℕ} {t : Table} → t ≡ graphOf words → Stored words → (w : Plan) × Leaves t w words
-stored-held {words} {t} e s =
-    let (u, w, l) = stored-leaves words s in
-    (w, subst (λ (x : Table). Leaves x w words) (sym (leaves-graph l) ∙ sym e) l)
-
+-- what is stored is left by the table that it holds, with its plan
 pub stored-whole : (words : List ℕ) → Stored words → Leaves (graphOf words) (planOf words) words
 stored-whole words s =
     let (t, w, l) = stored-leaves words s in

@@ -1,8 +1,8 @@
 -- The memory of a table of which nothing is planned yet, and what comes of it, mode by mode.
 use mathlib.Core.Path.{_≡_}
 use mathlib.Core.List.{List}
-use Prim.Native.Nat.{ℕ, _*_, _<_}
-use lib.ListN.{length, getD, replicate}
+use Prim.Native.Nat.{ℕ, _*_}
+use lib.ListN.{getD, replicate}
 use Rattle.numbers.specs.Joined.{joined}
 use Rattle.numbers.specs.Tab.{stretchOf}
 use Rattle.units.specs.Limits.{MODES}

@@ -22,7 +22,7 @@ ghost use Rattle.change.specs.Work.{WORKS-WORDS, Fitting};
 ghost use Rattle.change.specs.Running.{runningIn, worksWords};
 ghost use Rattle.planning.specs.Nothing.{noTiming};
 ghost use Rattle.planning.specs.Changes.{ChangeOf};
-ghost use Rattle.layout.specs.Words.{CHANGES as CHANGES-LIMIT, MODE-WORDS, WORDS};
+ghost use Rattle.layout.specs.Words.{CHANGES as CHANGES-LIMIT, WORDS};
 ghost use Rattle.planner.specs.Changes.{MODES-WORDS, runningsIn, Worked, Runs, ChangesPut, ChangesHeld};
 
 // No change.

@@ -12,7 +12,7 @@ use terms::place::number_of;
 use units::limits::MODES;
 ghost use mathlib.Core.Path.{_≡_};
 ghost use Prim.Native.Nat.{ℕ, _*_, _<_};
-ghost use lib.ListN.{length, replicate};
+ghost use lib.ListN.{length};
 ghost use Rattle.numbers.specs.Joined.{joined};
 ghost use Rattle.units.specs.Limits.{MODES as MODES-LIMIT};
 ghost use Rattle.tables.specs.Memory.{FRONT-WORDS, CHANNELS-BYTES, TABLE-WORDS, TABLE-BYTES, modeIn, tableIn};

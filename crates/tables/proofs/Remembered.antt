@@ -7,7 +7,7 @@ use native.Mathlib.Nat.{mod-eq-of-lt, not-suc-le-zero, mul-zero, mul-suc}
 use native.Mathlib.Omega.{arith}
 use borrow.Rule.Slice.PartMut.{putMid}
 use lib.ListN.{length, getD, set, take, drop, length-append, length-take, length-drop, take-append-drop, List·getD-append, length-set, replicate, length-replicate, getD-replicate, replicate-append-replicate}
-use lib.Seq.{getD-set-same, getD-set-other, ext-getD, take-all, getD-append-add, getD-take, getD-drop, drop-drop, drop-set-lt, drop-cons, take-add}
+use lib.Seq.{getD-set-same, getD-set-other, ext-getD, take-all, getD-append-add, getD-take, getD-drop, drop-drop, drop-set-lt}
 use Rattle.numbers.specs.Bits.{adding}
 use Rattle.numbers.specs.Joined.{joined, part, getD-part, joined-same, joined-part, length-joined, getD-joined}
 use Rattle.numbers.specs.Tab.{tab, stretchOf, length-tab, getD-tab, is-tab, tab-same, filled-more, getD-replicated, placing, placing-there, placing-aside}

@@ -1,11 +1,10 @@
 -- layout::load::channels_of meets its contract. The invariant: the channels below k are read. Assumes nothing.
 use borrow.Author.Needs.{needs}
-use mathlib.Core.Path.{_≡_, refl, ap, _∙_}
+use mathlib.Core.Path.{ap, _∙_}
 use Prim.Native.Nat.{_≤_, _-_}
 use native.Mathlib.Omega.{arith}
 use lib.ListN.{length-take, length-drop}
 use Rattle.numbers.specs.Joined.{part}
-use Rattle.numbers.specs.Tab.{tab}
 use Rattle.numbers.proofs.Laid.{Begun, begun-none, begun-put, begun-all, part-is}
 use Rattle.units.specs.Limits.{CHANNELS}
 use Rattle.tables.specs.Memory.{CHANNEL-BYTES}

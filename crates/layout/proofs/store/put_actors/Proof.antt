@@ -1,5 +1,4 @@
 -- layout::store::put_actors meets its contract. The invariant: what is planned of the actors below i is written. Assumes nothing.
-use borrow.Author.Needs.{needs}
 use mathlib.Core.Path.{_≡_}
 use Prim.Native.Nat.{_+_, _≤_, _-_, _*_}
 use native.Mathlib.Omega.{arith}

@@ -1,5 +1,4 @@
 -- layout::store::put_bytes meets its contract. The invariant: the words below k are written. Assumes nothing.
-use borrow.Author.Needs.{needs}
 use mathlib.Core.Path.{_≡_, refl}
 use Prim.Native.Nat.{ℕ, _≤_, _<_, _-_}
 use native.Mathlib.Nat.{not-suc-le-zero}

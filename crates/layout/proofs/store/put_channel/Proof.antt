@@ -1,6 +1,5 @@
 -- layout::store::put_channel meets its contract. Assumes nothing.
 use borrow.Author.Needs.{needs}
-use native.Mathlib.Omega.{arith}
 use Rattle.numbers.proofs.Laid.{put-two}
 use Rattle.tables.specs.Memory.{CHANNEL-BYTES}
 use Rattle.layout.proofs.store.put_channel.Statement.{statement}

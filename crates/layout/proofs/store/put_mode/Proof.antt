@@ -1,7 +1,7 @@
 -- layout::store::put_mode meets its contract. Assumes nothing.
 use borrow.Author.Needs.{needs}
-use mathlib.Core.Path.{_≡_, ap}
-use Prim.Native.Nat.{ℕ, _≤_}
+use mathlib.Core.Path.{ap}
+use Prim.Native.Nat.{_≤_}
 use native.Mathlib.Omega.{arith}
 use lib.ListN.{length-take, length-drop}
 use Rattle.units.specs.Limits.{CHANNELS}

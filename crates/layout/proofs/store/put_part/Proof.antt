@@ -1,7 +1,6 @@
 -- layout::store::put_part meets its contract. Assumes nothing.
 use borrow.Author.Needs.{needs}
 use mathlib.Core.Path.{ap, _∙_}
-use native.Mathlib.Omega.{arith}
 use Rattle.tables.specs.declared.memory.Head.{Head}
 use Rattle.tables.specs.Memory.{headWords}
 use Rattle.layout.specs.Words.{headWith}

@@ -1,15 +1,12 @@
 -- planner::modes::plan_into meets its contract. Assumes nothing.
 use borrow.Author.Needs.{needs}
-use mathlib.Core.Path.{_≡_, refl, sym, ap, subst, _∙_}
-use lib.ListN.{length}
+use mathlib.Core.Path.{_≡_, refl, sym, subst, _∙_}
 use native.Mathlib.Omega.{arith}
 use lib.ListN.{getD}
 use Rattle.tables.specs.Shape.{Mode}
 use Rattle.tables.specs.Memory.{modeIn, Stands}
 use Rattle.planning.specs.declared.Answer.{Answer}
 use Rattle.planning.specs.OneMode.{Comes}
-use Rattle.planning.proofs.Coming.{any-comes}
-use Rattle.layout.specs.Laws.{length-planned}
 use Rattle.planner.proofs.Coming.{fresh-stands, carried-fresh, fresh-active, unlisted-comes, fresh-planned}
 use Rattle.planner.proofs.modes.plan_into.Statement.{statement}
 use Rattle.planner.proofs.modes.plan_into.Tie as tie

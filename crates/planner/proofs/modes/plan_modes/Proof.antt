@@ -1,10 +1,9 @@
 -- planner::modes::plan_modes meets its contract. The invariant: the modes below m are planned. Assumes nothing.
 use borrow.Author.Needs.{needs}
-use mathlib.Core.Path.{_≡_, ap, subst, _∙_}
-use mathlib.Core.List.{List}
-use Prim.Native.Nat.{ℕ, _+_, _-_, _*_, _≤_}
+use mathlib.Core.Path.{_≡_, ap, _∙_}
+use Prim.Native.Nat.{_-_, _*_, _≤_}
 use native.Mathlib.Omega.{arith}
-use lib.ListN.{length, length-take, length-drop}
+use lib.ListN.{length}
 use Rattle.units.specs.Limits.{MODES}
 use Rattle.tables.specs.Shape.{Table}
 use Rattle.tables.specs.Memory.{TABLE-WORDS, TABLE-BYTES, tableIn}

@@ -5,13 +5,13 @@ use borrow.Author.Tests.{not-true, not-false}
 use mathlib.Core.Path.{_≡_, sym, ap, subst, subst₂, _∙_}
 use mathlib.Core.Bool.{Bool}
 use mathlib.Core.List.{List}
-use Prim.Native.Nat.{ℕ, _^_, _≤_, _<_, _-_}
+use Prim.Native.Nat.{ℕ, _≤_, _<_, _-_}
 use native.Mathlib.Nat.{mod-lt}
 use native.Mathlib.Omega.{arith}
 use Rattle.numbers.specs.All.{Below}
 use Rattle.numbers.specs.Bits.{Has, has-below}
 use Rattle.numbers.specs.Decides.{Decides, decides-yes, decides-no, decides-true, decides-false}
-use Rattle.units.specs.Limits.{ACTORS, CHANNELS}
+use Rattle.units.specs.Limits.{ACTORS}
 use Rattle.tables.specs.declared.Actor.{Actor}
 use Rattle.tables.specs.declared.Channel.{Channel}
 use Rattle.tables.specs.declared.memory.Head.{Head}

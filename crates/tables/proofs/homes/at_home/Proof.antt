@@ -1,8 +1,6 @@
 -- tables::homes::at_home meets its contract. The invariant: the actors below i are on their homes. Assumes nothing.
 use borrow.Author.Count.{below-more}
-use borrow.Author.Needs.{needs}
 use mathlib.Core.Path.{_≡_, sym, ap, _∙_}
-use mathlib.Core.List.{List}
 use Prim.Native.Nat.{ℕ, _≤_, _-_}
 use native.Mathlib.Omega.{arith}
 use lib.ListN.{getD}

@@ -1,12 +1,7 @@
 -- tables::memory::channel_at meets its contract. Assumes nothing.
 use borrow.Author.Needs.{needs}
-use mathlib.Core.Path.{_≡_, ap, ap₂, _∙_}
-use mathlib.Core.List.{List}
-use Prim.Native.Nat.{ℕ, _+_, _-_, _*_}
+use Prim.Native.Nat.{_+_, _-_, _*_}
 use native.Mathlib.Omega.{arith}
-use lib.ListN.{getD, take, drop}
-use Rattle.units.specs.Limits.{PHASES}
-use Rattle.tables.specs.declared.Channel.{Channel}
 use Rattle.tables.specs.Memory.{CHANNEL-BYTES}
 use Rattle.tables.proofs.Remembered.{channel-read}
 use Rattle.tables.proofs.memory.channel_at.Statement.{statement}

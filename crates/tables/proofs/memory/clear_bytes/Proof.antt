@@ -1,5 +1,4 @@
 -- tables::memory::clear_bytes meets its contract. The invariant: the bytes below k are 0. Assumes nothing.
-use borrow.Author.Needs.{needs}
 use Prim.Native.Nat.{_-_, _≤_}
 use native.Mathlib.Omega.{arith}
 use lib.ListN.{length}
