@@ -19,8 +19,8 @@
  * What the proofs assume of the caller: a pointer is valid for as many elements as stand beside it, or in its brackets, is aligned for them, and is
  * not NULL even where there are none; what lies there has been set before; and no two pointers of one call lead to the same memory.
  *
- * Stack, as it was seen on the largest table with the module compiled for 64-bit Arm (docs/BENCH.md): 33 KB for a start and for a request, 159 KB for
- * planning, 126 KB for printing. The proofs say nothing of it.
+ * Stack, as it was seen on the largest table with the module compiled for 64-bit Arm (docs/BENCH.md): 21 KB for planning, 15 KB for a start, for a
+ * request and for printing. The proofs say nothing of it.
  */
 #ifndef STELLARSNARE_H
 #define STELLARSNARE_H

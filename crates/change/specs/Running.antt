@@ -37,7 +37,7 @@ modeTimes r =
       iteration = r .iteration;
       periods = r .periods;
       starts = r .starts;
-      sinkStart = r .«sink_start»;
+      sinkStart = r .sinkStart;
       startup = r .startup;
     }
 
@@ -49,7 +49,7 @@ pub record Ready (r : Running) : Type 0 where
   pub period : (i : ℕ) → Active (modeTimes r .mode) i → 0 < periodIn (modeTimes r) i .0
   pub whole : (i : ℕ) → Active (modeTimes r .mode) i → firingsAt (r .firings) i .0 * periodIn (modeTimes r) i .0 ≡ r .iteration .0
   pub start : (i : ℕ) → i < ACTORS → startOf (modeTimes r) i ≤ r .startup .0
-  pub sink-start : r .«sink_start» .0 ≤ MOST-START .0
+  pub sink-start : r .sinkStart .0 ≤ MOST-START .0
   pub startup : r .startup .0 ≤ MOST-START .0
   pub some-tick : 0 < r .iteration .0
   pub iteration : r .iteration .0 ≤ ITERATION-LIMIT .0

@@ -68,7 +68,7 @@ pub record Running : Type 0 where
   pub firings : List Firing
   pub periods : List Tick
   pub starts : List Tick
-  pub «sink_start» : Tick
+  pub sinkStart : Tick
   pub startup : Tick
   pub works : List Works
 
@@ -88,7 +88,7 @@ preparedOf active actors iteration firings periods starts sinkStart startup =
       firings = firings;
       periods = periods;
       starts = starts;
-      «sink_start» = sinkStart;
+      sinkStart = sinkStart;
       startup = startup;
       works = tab ACTORS (worksAt actors firings starts);
     }

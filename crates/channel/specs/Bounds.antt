@@ -1,22 +1,21 @@
 -- How great the numbers of one channel become: all fit.
-use mathlib.Core.Path.{refl, _≡_, sym, ap, ap₂, subst, _∙_}
+use mathlib.Core.Path.{refl, _≡_, sym, ap, ap₂, _∙_}
 use mathlib.Core.Bool.{cond}
 use mathlib.Core.List.{List}
-use Prim.Native.Nat.{ℕ, _+_, _*_, _/_, _≤_, _<_, zero-le}
+use Prim.Native.Nat.{ℕ, _+_, _*_, _/_, _^_, _≤_, _<_, zero-le}
 use native.Mathlib.Nat.{le-trans, le-of-dvd, div-le-self, mul-le-mul, mul-le-mul-right, div-mul-le-self, le-refl, le-of-lt, add-zero, zero-max, max-le, sub-le}
 use native.Mathlib.Omega.{arith}
 use lib.Dec.{eqb}
-use lib.ListN.{getD}
+use lib.ListN.{length, getD}
 use Rattle.numbers.specs.Extreme.{most-same, most-within}
 use Rattle.numbers.specs.Sum.{sum-next}
-use Rattle.numbers.specs.Filled.{Filled, FilledBy, filled-weaker}
 use Rattle.numbers.specs.Reckoned.{gcd-of}
 use Rattle.units.specs.declared.Tick.{Tick}
 use Rattle.units.specs.declared.Token.{Token}
 use Rattle.units.specs.Ticks.{tick, plusTicks, timesTicks}
 use Rattle.units.specs.Tokens.{token, plusTokens, timesTokens}
 use Rattle.units.specs.Bounds.{MOST-TOKENS, MOST-START, MOST-SIZE}
-use Rattle.units.specs.Limits.{PHASES, MOST-RATE, ITERATION-LIMIT}
+use Rattle.units.specs.Limits.{MOST-RATE, ITERATION-LIMIT}
 use Rattle.units.specs.Firings.{firing}
 use Rattle.period.specs.Period.{beginsAt, endsAt}
 use Rattle.rate.specs.declared.pace.Step.{Step}
@@ -27,7 +26,8 @@ use Rattle.channel.specs.declared.pace.Pace.{Pace}
 use Rattle.channel.specs.declared.waits.Mark.{Mark}
 use Rattle.channel.specs.declared.claims.Hold.{Hold}
 use Rattle.channel.specs.Flow.{ratesOf, IsSize, Proper, Paced, cycleTokens, cycleTicks}
-use Rattle.channel.specs.Phases.{noMark, noHold, stepOf, paceOf, giveOf, giveAt, takeOf, takeAt, waitOf, latestOf, startOf, claimingAt, backAt, claimOf, greatestOf, present, sizeOf, claimingOf, backOf, cyclesOf}
+use Rattle.channel.specs.Phases.{stepOf, paceOf, giveOf, giveAt, takeOf, takeAt, waitOf, latestOf, startOf, claimingAt, backAt, claimOf, greatestOf, present, sizeOf, claimingOf, backOf, cyclesOf}
+use Rattle.channel.specs.Words.{PHASES-WORDS, phasesOver, markWords, markOf, markIn, holdWords, holdOf, holdIn, Noted, phase-put, phases-put}
 use Rattle.channel.specs.Laws.{rate-at, tokens-most, cycle-p, cycle-c, in-step, claimed-with, size-most}
 
 -- an end of its parts
@@ -103,11 +103,6 @@ module _ (p c : End) where
   pub common-pos : Paced p c → 0 < stepOf p c .tokens .0
   common-pos w = in-step p c w 1 .some-g
 
--- an array that is filled with f 0, f 1, .. of which every one has the property P
-given-ready : {A : Type 0} (z : A) (P : A → Type 0) (f : ℕ → A) (n : ℕ) (l : List A) → ((s : ℕ) → s < n → P (f s)) → FilledBy PHASES f z l n
-    → Filled PHASES (λ s. P) z z l n
-given-ready z P f n l p g = filled-weaker PHASES (λ s v. v ≡ f s) z z (λ s. P) l n (λ s v h e. subst P (sym e) (p s h)) g
-
 module _ (w : Pace) (t : Tick) (n : Token) (h : Short w) (e : Early t n) where
   pub give-near : Near (giveOf w t n)
   give-near =
@@ -130,7 +125,10 @@ module _ (e : End) (h : Proper e) where
   pub rate-by : (k : ℕ) → k < e .phases → getD (e .rates) k 0 ≤ MOST-RATE .0
   rate-by k l = h .rates k (omega (arith, h .phases))
 
-  -- one phase more, as a loop counts
+  -- one phase more, as a loop counts: its tokens fit, and are those of so many phases
+  pub tokens-fit : (k : ℕ) {made m : Token} → k < e .phases → made ≡ tokensOf (ratesOf e) (firing k) → m ≡ token (getD (e .rates) k 0) → plusTokens made m .0 < 2 ^ 64
+  tokens-fit k l em er = omega (arith, tokens-by k (le-of-lt l), ap (λ (x : Token). x .0) em, rate-by k l, ap (λ (x : Token). x .0) er)
+
   pub tokens-next : (k : ℕ) {made m r : Token} → k < e .phases → made ≡ tokensOf (ratesOf e) (firing k) → m ≡ token (getD (e .rates) k 0) → r ≡ plusTokens made m
       → r ≡ tokensOf (ratesOf e) (firing (k + 1))
   tokens-next k l em er eq =
@@ -148,10 +146,10 @@ module _ (e : End) (s : ℕ) (h : Brief e) (l : s < e .phases) where
   take-early = record { at = omega (arith, ends-by e s h l); tokens = omega (arith, tokens-by e (h .proper) (s + 1) (omega arith)) }
 
 -- the marks of the producer's phases are near
-pub gives-ready : (p : End) (sp : Tick) (w : Pace) (l : List Mark) → Brief p → sp .0 ≤ MOST-START .0 → Short w → FilledBy PHASES (giveAt 0 w p sp) noMark l (p .phases)
-    → Filled PHASES (λ s. Near) noMark noMark l (p .phases)
-gives-ready p sp w l h b q =
-    given-ready noMark Near (giveAt 0 w p sp) (p .phases) l (λ s r. give-near w _ _ q (give-early p s h r sp b))
+pub gives-ready : (p : End) (sp : Tick) (w : Pace) (l : List ℕ) {m : List ℕ} → Brief p → sp .0 ≤ MOST-START .0 → Short w → length l ≡ PHASES-WORDS
+    → m ≡ phasesOver markWords (p .phases) (giveAt 0 w p sp) l → Noted Near (markIn m) m (p .phases)
+gives-ready p sp w l h b q long e =
+    phases-put _ (λ s. refl) (p .phases) l e markOf Near long (h .proper .phases) (λ s r. give-near w _ _ q (give-early p s h r sp b))
 
 pub pace-short : (p c : End) → Paced p c → Short (paceOf p c 1)
 pace-short p c w =
@@ -163,12 +161,12 @@ pace-short p c w =
     }
 
 -- the start from the marks
-pub start-from : (p : End) (sp : Tick) (c : End) (w : Pace) (l : List Mark) → w ≡ paceOf p c 1 → FilledBy PHASES (giveAt 0 w p sp) noMark l (p .phases)
-    → latestOf (λ s. getD l s noMark) (p .phases) w c ≡ startOf 0 p sp c
+pub start-from : (p : End) (sp : Tick) (c : End) (w : Pace) (l : List ℕ) {m : List ℕ} → w ≡ paceOf p c 1
+    → m ≡ phasesOver markWords (p .phases) (giveAt 0 w p sp) l → latestOf (markIn m) (p .phases) w c ≡ startOf 0 p sp c
 unfolding startOf
 start-from p sp c w l e g =
     (λ i. tick (most-same _ _ (c .phases) (λ f hf. ap (λ (v : ℕ). cond (eqb (rateOf (ratesOf c) f) 0) 0 v)
-    (most-same _ _ (p .phases) (λ s hs. ap (λ (m : Mark). waitOf (w .step .ticks) m (takeAt w c f) .0) (g .each s hs)))) i))
+    (most-same _ _ (p .phases) (λ s hs. ap (λ (m : Mark). waitOf (w .step .ticks) m (takeAt w c f) .0) (phase-put _ (λ s. refl) (p .phases) l g markOf s hs)))) i))
     ∙ ap (λ (w : Pace). latestOf (giveAt 0 w p sp) (p .phases) w c) e
 
 module _ (w : Pace) (t : Tick) (n : Token) (h : Long w) (e : Early t n) where
@@ -192,10 +190,11 @@ module _ (e : End) (s : ℕ) (h : Brief e) (l : s < e .phases) (start : Tick) (b
   pub back-early : Early (endsAt start (e .period) (firing s)) (tokensOf (ratesOf e) (firing s))
   back-early = record { at = omega (arith, b, ends-by e s h l); tokens = omega (arith, tokens-by e (h .proper) s (le-of-lt l)) }
 
-pub claims-ready : (p : End) (sp : Tick) (w : Pace) (l : List Hold) → Brief p → sp .0 ≤ MOST-START .0 → Long w → FilledBy PHASES (claimingAt w p sp) noHold l (p .phases)
-    → Filled PHASES (λ s. Few) noHold noHold l (p .phases)
-claims-ready p sp w l h b q =
-    given-ready noHold Few (claimingAt w p sp) (p .phases) l (λ s r. claiming-few w _ _ q (claiming-early p s h r sp b))
+-- the holds of the producer's phases are few
+pub claims-ready : (p : End) (sp : Tick) (w : Pace) (l : List ℕ) {m : List ℕ} → Brief p → sp .0 ≤ MOST-START .0 → Long w → length l ≡ PHASES-WORDS
+    → m ≡ phasesOver holdWords (p .phases) (claimingAt w p sp) l → Noted Few (holdIn m) m (p .phases)
+claims-ready p sp w l h b q long e =
+    phases-put _ (λ s. refl) (p .phases) l e holdOf Few long (h .proper .phases) (λ s r. claiming-few w _ _ q (claiming-early p s h r sp b))
 
 module _ (p : End) (sp : Tick) (c : End) (w : Paced p c) (b : sp .0 ≤ MOST-START .0) where
   pub cycles-add : Adds p (cyclesOf p sp)
@@ -218,13 +217,12 @@ module _ (p : End) (sp : Tick) (c : End) (w : Paced p c) (b : sp .0 ≤ MOST-STA
 present-none : (h : Hold) → present 0 h ≡ h
 present-none h = λ i. record { more = token (add-zero (h .more .0) i); fewer = h .fewer; rest = h .rest }
 
-pub size-from : (p : End) (sp : Tick) (c : End) (sc : Tick) (w : Pace) (l : List Hold) → w ≡ paceOf p c (cyclesOf p sp)
-    → FilledBy PHASES (claimingAt w p sp) noHold l (p .phases)
-    → greatestOf (λ s. getD l s noHold) (p .phases) w c sc ≡ sizeOf 0 p sp c sc
+pub size-from : (p : End) (sp : Tick) (c : End) (sc : Tick) (w : Pace) (l : List ℕ) {m : List ℕ} → w ≡ paceOf p c (cyclesOf p sp)
+    → m ≡ phasesOver holdWords (p .phases) (claimingAt w p sp) l → greatestOf (holdIn m) (p .phases) w c sc ≡ sizeOf 0 p sp c sc
 unfolding sizeOf
 size-from p sp c sc w l e g =
     (λ i. token (most-same _ _ (c .phases) (λ f hf. most-same _ _ (p .phases) (λ s hs.
-    ap (λ (h : Hold). claimOf (w .step .tokens) h (backAt w c sc f) .0) (g .each s hs ∙ sym (present-none (claimingAt w p sp s))))) i))
+    ap (λ (h : Hold). claimOf (w .step .tokens) h (backAt w c sc f) .0) (phase-put _ (λ s. refl) (p .phases) l g holdOf s hs ∙ sym (present-none (claimingAt w p sp s))))) i))
     ∙ ap (λ (w : Pace). greatestOf (λ s. present 0 (claimingAt w p sp s)) (p .phases) w c sc) e
     ∙ (λ i. token (sym (zero-max (greatestOf (λ s. present 0 (claimingAt (paceOf p c (cyclesOf p sp)) p sp s)) (p .phases) (paceOf p c (cyclesOf p sp)) c sc .0)) i))
 

@@ -31,13 +31,6 @@ stepOf p c =
 abbrev pub paceOf : End → End → ℕ → Pace
 paceOf p c k = record { step = stepOf p c; tokens = timesTokens k (cycleTokens p); ticks = timesTicks k (cycleTicks p) }
 
--- what stands past the end of an array
-abbrev pub noMark : Mark
-noMark = record { later = tick 0; sooner = tick 0; rest = token 0 }
-
-abbrev pub noHold : Hold
-noHold = record { more = token 0; fewer = token 0; rest = tick 0 }
-
 -- The start. A phase of the producer that ends at a tick, before which there are too few tokens by so many; one of the consumer that begins at a tick,
 -- until whose end so many tokens are taken.
 abbrev pub giveOf : Pace → Tick → Token → Mark

@@ -5,21 +5,49 @@ use period::begins;
 use period::ends;
 use units::Tick;
 use units::Token;
-use units::limits::PHASES;
 ghost use mathlib.Core.Path.{_≡_};
-ghost use Prim.Native.Nat.{_≤_};
-ghost use lib.ListN.{getD};
-ghost use Rattle.numbers.specs.Filled.{Filled, FilledBy};
+ghost use Prim.Native.Nat.{_≤_, _<_};
+ghost use lib.ListN.{length};
 ghost use Rattle.units.specs.Bounds.{MOST-TOKENS, MOST-START};
 ghost use Rattle.units.specs.Limits.{PHASES};
-ghost use Rattle.channel.specs.Phases.{noHold, claimingOf, claimingAt, backOf, claimOf, heldOf, greatestOf};
+ghost use Rattle.channel.specs.Phases.{claimingOf, claimingAt, backOf, claimOf, heldOf, greatestOf};
+ghost use Rattle.channel.specs.Words.{PHASE-WORDS, PHASES-WORDS, phasesOver, holdWords, holdIn, Noted};
 ghost use Rattle.channel.specs.Bounds.{Brief, Few, Long, Early};
+
+// The words of a hold: more, fewer, rest.
+pub(crate) const HOLD_WORDS: usize = 3;
 
 // A phase of either end: by how many tokens it makes a claim more and fewer, and the ticks that are left over whole steps.
 pub(crate) struct Hold {
     pub more: Token,
     pub fewer: Token,
     pub rest: Tick,
+}
+
+// The words of a hold.
+fn put_hold(hold: Hold, words: &mut [u64])
+    requires { ⌜ length (now words) ≡ PHASE-WORDS ⌝ }
+    ensures { λ _. ⌜ now (words .exit) ≡ holdWords hold ⌝ }
+{
+    let more = hold.more;
+    let fewer = hold.fewer;
+    let rest = hold.rest;
+    words[0] = more.tokens();
+    words[1] = fewer.tokens();
+    words[2] = rest.ticks();
+}
+
+// The hold of phase s.
+fn hold_at(holds: &[u64], s: usize) -> Hold
+    requires { ⌜ (length (now holds) ≡ PHASES-WORDS) × (s < PHASES) ⌝ }
+    ensures { λ r. ⌜ r ≡ holdIn (now (holds .entry)) s ⌝ }
+{
+    let at = HOLD_WORDS * s;
+    Hold {
+        more: Token::of(holds[at]),
+        fewer: Token::of(holds[at + 1]),
+        rest: Tick::of(holds[at + 2]),
+    }
 }
 
 // A phase of the producer that has begun by a tick, with which so many tokens are made.
@@ -35,27 +63,22 @@ fn claiming(pace: Pace, by: Tick, made: Token) -> Hold
     }
 }
 
-// The phases of the producer.
-pub(crate) fn claims(producer: End, start: Tick, pace: Pace) -> [Hold; PHASES]
-    requires { ⌜ Brief producer × (start .0 ≤ MOST-START .0) × Long pace ⌝ }
-    ensures { λ r. ⌜ FilledBy PHASES (claimingAt pace producer start) noHold r (producer .phases) ⌝ }
+// The words of the holds of the producer's phases.
+pub(crate) fn claims(producer: End, start: Tick, pace: Pace, holds: &mut [u64])
+    requires { ⌜ Brief producer × (start .0 ≤ MOST-START .0) × Long pace × (length (now holds) ≡ PHASES-WORDS) ⌝ }
+    ensures { λ _. ⌜ now (holds .exit) ≡ phasesOver holdWords (producer .phases) (claimingAt pace producer start) (now (holds .entry)) ⌝ }
 {
     let rates = producer.rates;
     let period = producer.period;
     let n = producer.phases;
-    let none = Hold {
-        more: Token::NONE,
-        fewer: Token::NONE,
-        rest: Tick::NONE,
-    };
-    let mut holds = [none; PHASES];
     let mut made = Token::NONE;
     for s in 0..n {
+        let a = HOLD_WORDS * s;
+        let e = a + HOLD_WORDS;
         made = made.plus(rate::moved(rates[s]));
         let by = begins(start, period, rate::phases(s)).plus(Tick::ONE);
-        holds[s] = claiming(pace, by, made);
+        put_hold(claiming(pace, by, made), &mut holds[a..e]);
     }
-    holds
 }
 
 // A phase of the consumer that ends at a tick, before which so many tokens are taken.
@@ -86,27 +109,21 @@ fn claim(claiming: Hold, back: Hold, common: Token) -> Token
 }
 
 // The most places that are claimed while a phase of the consumer has not ended.
-fn held(claims: [Hold; PHASES], n: usize, back: Hold, common: Token) -> Token
-    requires { ⌜ Filled PHASES (λ s. Few) noHold noHold claims n × Few back × (common .0 ≤ MOST-TOKENS .0) ⌝ }
-    ensures { λ r. ⌜ r ≡ heldOf (λ s. getD claims s noHold) n common back ⌝ }
+fn held(claims: &[u64], n: usize, back: Hold, common: Token) -> Token
+    requires { ⌜ Noted Few (holdIn (now claims)) (now claims) n × Few back × (common .0 ≤ MOST-TOKENS .0) ⌝ }
+    ensures { λ r. ⌜ r ≡ heldOf (holdIn (now (claims .entry))) n common back ⌝ }
 {
     let mut most = Token::NONE;
     for s in 0..n {
-        most = most.greater(claim(claims[s], back, common));
+        most = most.greater(claim(hold_at(claims, s), back, common));
     }
     most
 }
 
 // The most places that are ever claimed.
-pub(crate) fn greatest(
-    claims: [Hold; PHASES],
-    n: usize,
-    consumer: End,
-    start: Tick,
-    pace: Pace,
-) -> Token
-    requires { ⌜ Filled PHASES (λ s. Few) noHold noHold claims n × Brief consumer × (start .0 ≤ MOST-START .0) × Long pace ⌝ }
-    ensures { λ r. ⌜ r ≡ greatestOf (λ s. getD claims s noHold) n pace consumer start ⌝ }
+pub(crate) fn greatest(claims: &[u64], n: usize, consumer: End, start: Tick, pace: Pace) -> Token
+    requires { ⌜ Noted Few (holdIn (now claims)) (now claims) n × Brief consumer × (start .0 ≤ MOST-START .0) × Long pace ⌝ }
+    ensures { λ r. ⌜ r ≡ greatestOf (holdIn (now (claims .entry))) n pace consumer start ⌝ }
 {
     let rates = consumer.rates;
     let period = consumer.period;

@@ -3,11 +3,13 @@ mod claims;
 mod pace;
 mod waits;
 
+use claims::HOLD_WORDS;
 use pace::pace_of;
 use pace::ticks_of;
 use units::Tick;
 use units::Token;
 use units::limits::PHASES;
+use waits::MARK_WORDS;
 ghost use Prim.Native.Nat.{_≤_};
 ghost use Rattle.numbers.specs.Extreme.{Least};
 ghost use Rattle.units.specs.Bounds.{MOST-START};
@@ -27,8 +29,9 @@ pub fn least_start(producer: End, start: Tick, consumer: End) -> Tick
     ensures { λ r. ⌜ Least (λ s. Fed producer start consumer (tick s)) (r .0) ⌝ }
 {
     let pace = pace_of(producer, consumer, 1);
-    let gives = waits::gives(producer, start, pace);
-    waits::latest(gives, producer.phases, consumer, pace)
+    let mut gives = [0u64; MARK_WORDS * PHASES];
+    waits::gives(producer, start, pace, &mut gives);
+    waits::latest(&gives, producer.phases, consumer, pace)
 }
 
 // The size of the channel's buffer, where the consumer starts at `next`: the greatest number of places claimed at any time, for ever.
@@ -38,6 +41,7 @@ pub fn size(producer: End, start: Tick, consumer: End, next: Tick) -> Token
 {
     let cycles = start.per(ticks_of(producer)) + 2;
     let pace = pace_of(producer, consumer, cycles);
-    let claims = claims::claims(producer, start, pace);
-    claims::greatest(claims, producer.phases, consumer, next, pace)
+    let mut claims = [0u64; HOLD_WORDS * PHASES];
+    claims::claims(producer, start, pace, &mut claims);
+    claims::greatest(&claims, producer.phases, consumer, next, pace)
 }

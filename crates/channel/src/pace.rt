@@ -22,8 +22,7 @@ fn tokens_of(end: End) -> Token
     ensures { λ r. ⌜ r ≡ cycleTokens end ⌝ }
 {
     let rates = end.rates;
-    let n = end.phases;
-    rate::tokens(&rates[..n], rate::phases(n))
+    rate::cycle_tokens(rates, end.phases)
 }
 
 // The ticks of a cycle of an end.

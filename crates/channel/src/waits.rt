@@ -5,21 +5,49 @@ use period::begins;
 use period::ends;
 use units::Tick;
 use units::Token;
-use units::limits::PHASES;
 ghost use mathlib.Core.Path.{_≡_};
-ghost use Prim.Native.Nat.{_≤_};
-ghost use lib.ListN.{getD};
-ghost use Rattle.numbers.specs.Filled.{Filled, FilledBy};
+ghost use Prim.Native.Nat.{_≤_, _<_};
+ghost use lib.ListN.{length};
 ghost use Rattle.units.specs.Bounds.{MOST-START};
 ghost use Rattle.units.specs.Limits.{PHASES, ITERATION-LIMIT};
-ghost use Rattle.channel.specs.Phases.{noMark, giveOf, giveAt, takeOf, waitOf, longestOf, askedBy, latestOf};
+ghost use Rattle.channel.specs.Phases.{giveOf, giveAt, takeOf, waitOf, longestOf, askedBy, latestOf};
+ghost use Rattle.channel.specs.Words.{PHASE-WORDS, PHASES-WORDS, phasesOver, markWords, markIn, Noted};
 ghost use Rattle.channel.specs.Bounds.{Brief, Near, Short, Early};
+
+// The words of a mark: later, sooner, rest.
+pub(crate) const MARK_WORDS: usize = 3;
 
 // A phase of either end: by how many ticks it brings a wait later and sooner, and the tokens that are left over whole steps.
 pub(crate) struct Mark {
     pub later: Tick,
     pub sooner: Tick,
     pub rest: Token,
+}
+
+// The words of a mark.
+fn put_mark(mark: Mark, words: &mut [u64])
+    requires { ⌜ length (now words) ≡ PHASE-WORDS ⌝ }
+    ensures { λ _. ⌜ now (words .exit) ≡ markWords mark ⌝ }
+{
+    let later = mark.later;
+    let sooner = mark.sooner;
+    let rest = mark.rest;
+    words[0] = later.ticks();
+    words[1] = sooner.ticks();
+    words[2] = rest.tokens();
+}
+
+// The mark of phase s.
+fn mark_at(marks: &[u64], s: usize) -> Mark
+    requires { ⌜ (length (now marks) ≡ PHASES-WORDS) × (s < PHASES) ⌝ }
+    ensures { λ r. ⌜ r ≡ markIn (now (marks .entry)) s ⌝ }
+{
+    let at = MARK_WORDS * s;
+    Mark {
+        later: Tick::of(marks[at]),
+        sooner: Tick::of(marks[at + 1]),
+        rest: Token::of(marks[at + 2]),
+    }
 }
 
 // A phase of the producer that ends at a tick, before which so many tokens are one too few.
@@ -35,30 +63,23 @@ fn give(pace: Pace, ends: Tick, short: Token) -> Mark
     }
 }
 
-// The phases of the producer.
-pub(crate) fn gives(producer: End, start: Tick, pace: Pace) -> [Mark; PHASES]
-    requires { ⌜ Brief producer × (start .0 ≤ MOST-START .0) × Short pace ⌝ }
-    ensures { λ r. ⌜ FilledBy PHASES (giveAt 0 pace producer start) noMark r (producer .phases) ⌝ }
+// The words of the marks of the producer's phases.
+pub(crate) fn gives(producer: End, start: Tick, pace: Pace, marks: &mut [u64])
+    requires { ⌜ Brief producer × (start .0 ≤ MOST-START .0) × Short pace × (length (now marks) ≡ PHASES-WORDS) ⌝ }
+    ensures { λ _. ⌜ now (marks .exit) ≡ phasesOver markWords (producer .phases) (giveAt 0 pace producer start) (now (marks .entry)) ⌝ }
 {
     let rates = producer.rates;
     let period = producer.period;
     let n = producer.phases;
-    let none = Mark {
-        later: Tick::NONE,
-        sooner: Tick::NONE,
-        rest: Token::NONE,
-    };
-    let mut marks = [none; PHASES];
     let mut made = Token::NONE;
     for s in 0..n {
-        marks[s] = give(
-            pace,
-            ends(start, period, rate::phases(s)),
-            made.plus(Token::ONE),
-        );
+        let a = MARK_WORDS * s;
+        let e = a + MARK_WORDS;
+        let at = ends(start, period, rate::phases(s));
+        let mark = give(pace, at, made.plus(Token::ONE));
+        put_mark(mark, &mut marks[a..e]);
         made = made.plus(rate::moved(rates[s]));
     }
-    marks
 }
 
 // A phase of the consumer that begins at a tick, until whose end so many tokens are taken.
@@ -89,21 +110,21 @@ fn wait(give: Mark, take: Mark, step: Tick) -> Tick
 }
 
 // The longest wait of a phase of the consumer.
-fn longest(gives: [Mark; PHASES], n: usize, take: Mark, step: Tick) -> Tick
-    requires { ⌜ Filled PHASES (λ s. Near) noMark noMark gives n × Near take × (step .0 ≤ ITERATION-LIMIT .0) ⌝ }
-    ensures { λ r. ⌜ r ≡ longestOf (λ s. getD gives s noMark) n step take ⌝ }
+fn longest(gives: &[u64], n: usize, take: Mark, step: Tick) -> Tick
+    requires { ⌜ Noted Near (markIn (now gives)) (now gives) n × Near take × (step .0 ≤ ITERATION-LIMIT .0) ⌝ }
+    ensures { λ r. ⌜ r ≡ longestOf (markIn (now (gives .entry))) n step take ⌝ }
 {
     let mut longest = Tick::NONE;
     for s in 0..n {
-        longest = longest.greater(wait(gives[s], take, step));
+        longest = longest.greater(wait(mark_at(gives, s), take, step));
     }
     longest
 }
 
 // The start that a phase of the consumer asks, which takes at this rate: none where it takes nothing.
-fn asked(gives: [Mark; PHASES], n: usize, pace: Pace, begins: Tick, rate: u8, taken: Token) -> Tick
-    requires { ⌜ Filled PHASES (λ s. Near) noMark noMark gives n × Short pace × Early begins taken ⌝ }
-    ensures { λ r. ⌜ r ≡ askedBy (λ s. getD gives s noMark) n pace begins rate taken ⌝ }
+fn asked(gives: &[u64], n: usize, pace: Pace, begins: Tick, rate: u8, taken: Token) -> Tick
+    requires { ⌜ Noted Near (markIn (now gives)) (now gives) n × Short pace × Early begins taken ⌝ }
+    ensures { λ r. ⌜ r ≡ askedBy (markIn (now (gives .entry))) n pace begins rate taken ⌝ }
 {
     if rate == 0 {
         return Tick::NONE;
@@ -113,9 +134,9 @@ fn asked(gives: [Mark; PHASES], n: usize, pace: Pace, begins: Tick, rate: u8, ta
 }
 
 // The latest start that a phase of the consumer asks.
-pub(crate) fn latest(gives: [Mark; PHASES], n: usize, consumer: End, pace: Pace) -> Tick
-    requires { ⌜ Filled PHASES (λ s. Near) noMark noMark gives n × Brief consumer × Short pace ⌝ }
-    ensures { λ r. ⌜ r ≡ latestOf (λ s. getD gives s noMark) n pace consumer ⌝ }
+pub(crate) fn latest(gives: &[u64], n: usize, consumer: End, pace: Pace) -> Tick
+    requires { ⌜ Noted Near (markIn (now gives)) (now gives) n × Brief consumer × Short pace ⌝ }
+    ensures { λ r. ⌜ r ≡ latestOf (markIn (now (gives .entry))) n pace consumer ⌝ }
 {
     let rates = consumer.rates;
     let period = consumer.period;

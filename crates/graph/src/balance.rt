@@ -9,13 +9,11 @@ use tables::memory::head_of;
 use units::Token;
 use units::bounds::MOST_CYCLES;
 use units::limits::ACTORS;
-use units::limits::PHASES;
 ghost use mathlib.Core.Path.{_≡_};
 ghost use Prim.Native.Nat.{_*_, _<_, _≤_};
 ghost use lib.ListN.{length};
 ghost use Rattle.units.specs.Limits.{ACTORS, PHASES};
 ghost use Rattle.tables.specs.Memory.{headIn, modeIn, Stands};
-ghost use Rattle.graph.specs.Balance.{cycleSum};
 ghost use Rattle.graph.specs.Counts.{MOST-TOKENS, Small, FlowIn, Shallow, Entered, flowBetween, entriesOf, aboveLimit, scaledOf, fedOf, countsFrom, balancesb};
 
 // A channel by its producer and the tokens that a cycle of the one makes and a cycle of the other takes.
@@ -31,14 +29,6 @@ pub(crate) struct Counts {
     pub counts: [u64; ACTORS],
 }
 
-// The tokens of a cycle.
-fn cycle_sum(phases: usize, rates: [u8; PHASES]) -> Token
-    requires { ⌜ (phases ≤ PHASES) × (length rates ≡ PHASES) ⌝ }
-    ensures { λ r. ⌜ r ≡ cycleSum phases rates ⌝ }
-{
-    rate::tokens(&rates[..phases], rate::phases(phases))
-}
-
 fn flow_of(channel: Channel, maker: Actor, taker: Actor) -> Flow
     requires { ⌜ (maker .phases ≤ PHASES) × (taker .phases ≤ PHASES) ⌝ }
     ensures { λ r. ⌜ r ≡ flowBetween channel maker taker ⌝ }
@@ -47,8 +37,8 @@ fn flow_of(channel: Channel, maker: Actor, taker: Actor) -> Flow
     let consumption = channel.consumption;
     Flow {
         from: channel.from,
-        made: cycle_sum(maker.phases, production),
-        taken: cycle_sum(taker.phases, consumption),
+        made: rate::cycle_tokens(production, maker.phases),
+        taken: rate::cycle_tokens(consumption, taker.phases),
     }
 }
 

@@ -4,12 +4,13 @@ use mathlib.Core.List.{List, [], _++_, append-assoc, append-nil}
 use mathlib.Core.Logic.{_⊎_, inl, inr}
 use Prim.Native.Nat.{ℕ, zero, suc, _+_, _-_, _*_, _≤_, _<_}
 use native.Mathlib.Nat.{add-zero, add-suc, mul-zero, mul-suc, mul-le-mul-left, le-of-eq, le-of-suc-le-suc, not-suc-le-zero, eq-or-lt-of-le}
+use native.Mathlib.Numerals.{add-one}
 use native.Mathlib.Omega.{arith}
 use lib.ListN.{length, getD, take, drop, length-append, length-take, length-drop, drop-of-length-le, replicate, replicate-append-replicate}
-use lib.Seq.{getD-take, getD-drop, take-at, drop-at, take-all, take-append-le, drop-append-le, take-append-add, drop-append-add, take-add, sets, sets-eq}
+use lib.Seq.{getD-take, getD-drop, take-at, drop-at, take-all, take-append-le, drop-append-le, take-append-add, drop-append-add, drop-drop, take-add, sets, sets-eq}
 use borrow.Rule.Slice.PartMut.{putMid}
 use Rattle.numbers.specs.Tab.{is-tab, stretchOf}
-use Rattle.numbers.specs.Joined.{joined, part, joined-next, joined-same, length-joined, getD-joined}
+use Rattle.numbers.specs.Joined.{joined, joinedOver, part, joined-next, joined-same, length-joined, getD-joined}
 
 -- w has n elements, and begins with p
 pub record Laid {A : Type 0} (n : ℕ) (p w : List A) : Type 0 where
@@ -67,6 +68,16 @@ module _ {A : Type 0} (k : ℕ) (f : ℕ → List A) (each : (i : ℕ) → lengt
 
   pub begun-all : (w : List A) (i : ℕ) → i ≡ n → Begun k f n w i → w ≡ joined n f
   begun-all w i e l = laid-all (subst (λ (j : ℕ). Begun k f n w j) e l) (length-joined k f each n)
+
+-- and of a list of which no more is known: what stands behind the lists that are joined is as it stood
+pub over-put : {A : Type 0} (k : ℕ) (f : ℕ → List A) (each : (i : ℕ) → length (f i) ≡ k) (l w b : List A) (i : ℕ) → b ≡ f i → w ≡ joinedOver k i f l
+    → putMid (k * i) (k * i + k - k * i) w b ≡ joinedOver k (i + 1) f l
+over-put k f each l w b i g e =
+    let wide : k * i + k - k * i ≡ k = omega arith in
+    let past : k * (i + 1) ≡ k * i + k = rw add-one (mul-suc k i) in
+    rw (e, g, wide, past, joined-next k f each i)
+    (ap₂ (λ x y. x ++ (f i ++ drop k y)) (take-at (joined i f) (drop (k * i) l) (k * i) (length-joined k f each i)) (drop-at (joined i f) (drop (k * i) l) (k * i) (length-joined k f each i))
+    ∙ rw (drop-drop, append-assoc))
 
 -- part i, by its two ends
 pub part-is : {A : Type 0} (k i : ℕ) (l : List A) → take (k * i + k - k * i) (drop (k * i) l) ≡ part k i l

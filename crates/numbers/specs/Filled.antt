@@ -51,10 +51,6 @@ module _ {A : Type 0} (n : ℕ) (P : ℕ → A → Type 0) (y z : A) where
         ahead = λ k g. f .ahead k (omega arith);
       }
 
-  -- with a property that follows
-  pub filled-weaker : (Q : ℕ → A → Type 0) (l : List A) (i : ℕ) → ((k : ℕ) (v : A) → k < i → P k v → Q k v) → Filled n P y z l i → Filled n Q y z l i
-  filled-weaker Q l i h f = record { long = f .long; within = f .within; each = λ k b. h k (getD l k z) b (f .each k b); ahead = f .ahead }
-
   -- all of them
   pub filled-whole : (l : List A) → length l ≡ n → ((k : ℕ) → k < n → P k (getD l k z)) → Filled n P y z l n
   filled-whole l e h = record { long = e; within = le-refl n; each = h; ahead = λ k g b. absurd (omega arith) }

@@ -2,11 +2,11 @@
 use mathlib.Core.Path.{_≡_, refl, sym, ap, ap₂, _∙_}
 use mathlib.Core.List.{List, [], _++_, append-assoc, append-nil}
 use mathlib.Core.Logic.{⊎-elim}
-use Prim.Native.Nat.{ℕ, zero, suc, _+_, _*_, _<_}
+use Prim.Native.Nat.{ℕ, zero, suc, _+_, _*_, _≤_, _<_}
 use native.Mathlib.Nat.{mul-zero, mul-suc, le-of-suc-le-suc, not-suc-le-zero, eq-or-lt-of-le}
 use native.Mathlib.Numerals.{add-one}
 use native.Mathlib.Omega.{arith}
-use lib.ListN.{length, getD, take, drop, length-append}
+use lib.ListN.{length, getD, take, drop, length-append, length-drop}
 use lib.Seq.{take-at, drop-at, getD-take, getD-drop}
 
 module _ {A : Type 0} where
@@ -22,6 +22,10 @@ module _ {A : Type 0} where
   -- the i-th of its parts of k elements
   abbrev pub part : ℕ → ℕ → List A → List A
   part k i l = stretch (k * i) k l
+
+  -- n lists of k elements joined in the place of the first elements of a list
+  abbrev pub joinedOver : ℕ → ℕ → (ℕ → List A) → List A → List A
+  joinedOver k n f l = joined n f ++ drop (k * n) l
 
   pub getD-part : (k i j : ℕ) (l : List A) (d : A) → j < k → getD (part k i l) j d ≡ getD l (k * i + j) d
   getD-part k i j l d h = getD-take k (drop (k * i) l) j d h ∙ getD-drop (k * i) l j d
@@ -58,3 +62,10 @@ module _ {A : Type 0} where
 
     pub getD-joined : (n i j : ℕ) (d : A) → i < n → j < k → getD (joined n f) (k * i + j) d ≡ getD (f i) j d
     getD-joined n i j d h l = sym (getD-part k i j (joined n f) d l) ∙ ap (λ (x : List A). getD x j d) (joined-part n i h)
+
+    pub length-over : (n : ℕ) (l : List A) → k * n ≤ length l → length (joinedOver k n f l) ≡ length l
+    length-over n l h = length-append (joined n f) (drop (k * n) l) ∙ omega (arith, length-joined n, length-drop (k * n) l)
+
+    pub getD-over : (n i j : ℕ) (l : List A) (d : A) → i < n → j < k → getD (joinedOver k n f l) (k * i + j) d ≡ getD (f i) j d
+    getD-over n i j l d h b =
+        sym (getD-part k i j (joinedOver k n f l) d b) ∙ ap (λ (x : List A). getD x j d) (part-joined n i (drop (k * n) l) h)

@@ -1,4 +1,4 @@
--- The modes that words hold, as they run, and the changes between them.
+-- Model: the modes that words hold, as they run, and the changes between them.
 use mathlib.Core.Path.{_≡_}
 use mathlib.Core.Bool.{Bool}
 use mathlib.Core.List.{List, _++_}

@@ -1,4 +1,4 @@
--- Words that hold modes, with what is planned of them.
+-- Model: words that hold modes, with what is planned of them.
 use mathlib.Core.Path.{_≡_}
 use mathlib.Core.List.{List}
 use Prim.Native.Nat.{ℕ, _<_}

@@ -1,4 +1,4 @@
--- The memory of a table of which nothing is planned yet, and what comes of it, mode by mode.
+-- Model: the memory of a table of which nothing is planned yet, and what comes of it, mode by mode.
 use mathlib.Core.Path.{_≡_}
 use mathlib.Core.List.{List}
 use Prim.Native.Nat.{ℕ, _*_}

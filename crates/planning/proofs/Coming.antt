@@ -8,7 +8,7 @@ use lib.ListN.{getD}
 use Rattle.numbers.specs.Tab.{getD-tab}
 use Rattle.units.specs.Limits.{MODES}
 use Rattle.terms.specs.declared.refusal.Refusal.{Refusal}
-use Rattle.tables.specs.Shape.{Mode, Table, modeAt}
+use Rattle.tables.specs.Shape.{Table, modeAt}
 use Rattle.tables.specs.Proper.{ProperTable}
 use Rattle.change.specs.Work.{Running}
 use Rattle.change.specs.declared.Timing.{Timing}
@@ -18,16 +18,11 @@ use Rattle.planning.specs.declared.Answer.{Answer}
 use Rattle.planning.specs.declared.Answer.the-variants.{Planned as IsPlanned, Refused as IsRefused}
 use Rattle.planning.specs.Nothing.{noPart}
 use Rattle.planning.specs.Plan.{changeAt, Listed, IsPart, IsChange, Planned}
-use Rattle.planning.specs.OneMode.{Comes}
 use Rattle.planning.specs.Changes.{noRunning, runningAt, Between, FoundChanges, runningOf}
 use Rattle.planning.specs.Steps.{AnyComes, Refusing, runningsOf, FoundParts}
 use Rattle.planning.proofs.Running.{listed-some, listed-none}
 
--- a mode that has an actor
-pub any-comes : (m : Mode) (n : ℕ) (a : Answer) (p : ModePlan) → (m .active ≡ 0 → ⊥) → Comes m n a p → AnyComes m n a p
-any-comes m n IsPlanned p h c = ((λ l. c), (λ e. absurd (h e)))
-any-comes m n (IsRefused r) p h c = (h, c .0)
-
+-- what comes of mode k of a table
 module _ (t : Table) (proper : ProperTable t) (k : ℕ) (l : k < MODES) where
   pub part-comes : (a : Answer) (p : ModePlan) → AnyComes (modeAt t k) (k + 1) a p → a ≡ IsPlanned → IsPart t k p
   part-comes a p comes e =

@@ -27,7 +27,7 @@ noRunning =
       firings = [];
       periods = [];
       starts = [];
-      «sink_start» = tick 0;
+      sinkStart = tick 0;
       startup = tick 0;
       works = [];
     }

@@ -12,6 +12,8 @@ use Rattle.rate.proofs.moved.Kinds as moved-kinds
 use Rattle.rate.proofs.moved.Reads as moved
 use Rattle.rate.proofs.tokens.Kinds as tokens-kinds
 use Rattle.rate.proofs.tokens.Reads as tokens
+use Rattle.rate.proofs.cycle_tokens.Kinds as cycle-tokens-kinds
+use Rattle.rate.proofs.cycle_tokens.Reads as cycle-tokens
 use Rattle.rate.proofs.even.Kinds as even-kinds
 use Rattle.rate.proofs.even.Reads as even
 use Rattle.rate.proofs.meet.Kinds as meet-kinds
@@ -34,6 +36,9 @@ moved-settled κs a x y s t p q = p ∙ sym q
 
 tokens-settled : Settles 1 tokens-kinds.ps tokens-kinds.r tokens.Post
 tokens-settled κs a x y s t p q = p ∙ sym q
+
+cycle-tokens-settled : Settles 0 cycle-tokens-kinds.ps cycle-tokens-kinds.r cycle-tokens.Post
+cycle-tokens-settled κs a x y s t p q = p ∙ sym q
 
 even-settled : Settles 0 even-kinds.ps even-kinds.r even.Post
 even-settled κs a x y s t p q = decides-unique x y p q

@@ -1,13 +1,17 @@
 -- The rate rule: the tokens that an actor makes on a channel, or takes from it.
 use mathlib.Core.Path.{_≡_, refl, sym, ap, subst, _∙_}
+use mathlib.Core.Bool.{Bool, true, false, cond}
 use mathlib.Core.List.{List}
-use Prim.Native.Nat.{ℕ, zero, suc, _+_, _*_, _/_, _%_, _<_, _∣_}
-use lib.ListN.{length, getD, List·getD-eq-default}
+use Prim.Native.Nat.{ℕ, zero, suc, _+_, _*_, _/_, _%_, _≤_, _<_, _∣_, min}
+use borrow.Author.Tests.{ltb-true, ltb-false}
+use lib.Dec.{ltb}
+use lib.ListN.{length, getD, take, List·getD-eq-default}
+use lib.Seq.{length-take-le, getD-take}
 use native.Mathlib.Nat.{mod-eq-of-lt, add-mod-right, div-add-mod', dvd-antisymm, dvd-mul-left, div-mul-cancel, mul-div-cancel', eq-of-mul-eq-mul-right}
 use native.Mathlib.Omega.{arith}
 use Rattle.numbers.specs.Common.{IsGcd}
 use Rattle.numbers.specs.Euclid.{gcd-pos, euclid}
-use Rattle.numbers.specs.Sum.{sum, sum-rounds}
+use Rattle.numbers.specs.Sum.{sum, sum-next, sum-rounds}
 use Rattle.units.specs.declared.Firing.{Firing}
 use Rattle.units.specs.declared.Token.{Token}
 use Rattle.units.specs.Firings.{firing}
@@ -44,6 +48,25 @@ pub tokens-cycles : (rates : List ℕ) (n : ℕ) → sum (rateOf rates) n ≡ n 
 tokens-cycles rates n =
     let e : n % length rates + n / length rates * length rates ≡ n = omega (arith, div-add-mod' n (length rates)) in
     omega (arith, rw e at (sum-rounds (rateOf rates) (length rates) (rate-cycle rates) (n % length rates) (n / length rates)))
+
+-- one phase more of a cycle: it adds its rate where it is one of the actor's phases, and nothing behind them
+pub cycle-next : (rates : List ℕ) (phases k : ℕ) → phases ≤ length rates
+    → sum (rateOf (take phases rates)) (min (k + 1) phases) ≡ sum (rateOf (take phases rates)) (min k phases) + cond (ltb k phases) (getD rates k 0) 0
+cycle-next rates phases k h = go (ltb k phases) refl
+  where
+    cycle : List ℕ
+    cycle = take phases rates
+
+    go : (b : Bool) → ltb k phases ≡ b → sum (rateOf cycle) (min (k + 1) phases) ≡ sum (rateOf cycle) (min k phases) + cond b (getD rates k 0) 0
+    go true e =
+        let l : k < phases = ltb-true k phases e in
+        let here : min k phases ≡ k = omega arith in
+        let next : min (k + 1) phases ≡ k + 1 = omega arith in
+        rw (here, next) (omega (arith, sum-next (rateOf cycle) k, rate-in cycle k (rw (length-take-le phases rates h) l), getD-take phases rates k 0 l))
+    go false e =
+        let l : phases ≤ k = ltb-false k phases e in
+        let same : min (k + 1) phases ≡ min k phases = omega arith in
+        rw same (omega arith)
 
 -- no list, no tokens
 pub tokens-none : (rates : List ℕ) (n : ℕ) → length rates ≡ 0 → sum (rateOf rates) n ≡ 0

@@ -4,9 +4,11 @@ pub mod pace;
 use numbers::common::gcd;
 use units::Firing;
 use units::Token;
+use units::limits::PHASES;
 ghost use mathlib.Core.Path.{_≡_};
+ghost use mathlib.Core.Bool.{cond};
 ghost use Prim.Native.Nat.{_*_, _^_, _<_, _≤_};
-ghost use lib.ListN.{length};
+ghost use lib.ListN.{length, take};
 ghost use Rattle.numbers.specs.Decides.{Decides};
 ghost use Rattle.numbers.specs.Sum.{sum};
 ghost use Rattle.units.specs.Limits.{PHASES, MOST-RATE};
@@ -61,6 +63,25 @@ pub fn tokens(rates: &[u8], n: Firing) -> Token
     let cycles = firings / phases as u64;
     let rest = firings % phases as u64;
     Token::of(cycles * first(rates, phases) + first(rates, rest as usize))
+}
+
+// The rate of a phase that counts, and nothing of another.
+fn counted(counts: bool, rate: u8) -> u64
+    ensures { λ r. ⌜ (r ≡ cond counts rate 0) × (r ≤ MOST-RATE .0) ⌝ }
+{
+    if counts { rate as u64 } else { 0 }
+}
+
+// The tokens of a cycle of an actor with so many phases and these rates.
+pub fn cycle_tokens(rates: [u8; PHASES], phases: usize) -> Token
+    requires { ⌜ (phases ≤ PHASES) × (length rates ≡ PHASES) ⌝ }
+    ensures { λ r. ⌜ r ≡ tokensOf (take phases rates) (firing phases) ⌝ }
+{
+    let mut sum: u64 = 0;
+    for k in 0..PHASES {
+        sum = sum + counted(k < phases, rates[k]);
+    }
+    Token::of(sum)
 }
 
 // Whether so many cycles of a producer make what so many cycles of a consumer take.

@@ -23,7 +23,7 @@ times c =
     found _ _ (p .0 .ready) (p .1 .ready) (c .before .overlap-of .ensures) (c .offset-of .ensures)
 
 -- the sink's start in the new mode
-sink : (c : tie.After-times-at) → c .times-at .result .start ≡ runningIn (c .before .before .before .before .before .before .before .before .before .args .new .now) .«sink_start»
+sink : (c : tie.After-times-at) → c .times-at .result .start ≡ runningIn (c .before .before .before .before .before .before .before .before .before .args .new .now) .sinkStart
 sink c =
     ap (λ (t : Times). t .start) (c .times-at .ensures)
     ∙ ap (λ (h : Head). timesIn (c .before .before .before .before .before .before .before .before .before .args .new .now) (h .sink) .start) (c .before .head-of2 .ensures)
