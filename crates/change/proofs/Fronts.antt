@@ -23,8 +23,9 @@ use Rattle.tables.specs.declared.memory.Times.{Times}
 use Rattle.tables.specs.Shape.{noActor}
 use Rattle.tables.specs.Memory.{frontWords, headIn, actorIn, timesIn}
 use Rattle.tables.proofs.Remembered.{front-head, front-actor, front-times}
+use Rattle.change.specs.declared.Works.{Works}
 use Rattle.change.specs.declared.wait.Side.{Side}
-use Rattle.change.specs.Work.{WORK-WORDS, WORKS-WORDS, Fitting, preparedOf, actorOf, firingsAt, tickAt, countedOf, noWorks, workWords}
+use Rattle.change.specs.Work.{WORK-WORDS, WORKS-WORDS, Fitting, preparedOf, actorOf, firingsAt, tickAt, countedOf, noWorks, workWords, worksHeld}
 use Rattle.change.specs.Running.{runningIn, ReadyFront}
 use Rattle.change.specs.Waits.{oldSide, newSide}
 use Rattle.change.proofs.Loads.{counted-one}
@@ -69,21 +70,26 @@ module _ {f words : List ℕ} (ready : ReadyFront f words) where
   pub length-works : length words ≡ WORKS-WORDS
   length-works = ap length (ready .works) ∙ length-joined WORK-WORDS wordsAt (λ i. refl) ACTORS
 
-  -- an actor of the mode that is left, and one of the mode that is entered
-  module _ (i : ℕ) (l : i < ACTORS) {h : Head} {t : Times} {w : Tick} {s : Fraction} (eh : h ≡ headIn f) (et : t ≡ timesIn f i) (es : s ≡ shareOf w (h .iteration)) where
+  module _ (i : ℕ) (l : i < ACTORS) where
     word : (j : ℕ) → j < WORK-WORDS → getD words (WORK-WORDS * i + j) 0 ≡ getD (wordsAt i) j 0
     word j b = ap (λ (w : List ℕ). getD w (WORK-WORDS * i + j) 0) (ready .works) ∙ getD-joined WORK-WORDS wordsAt (λ i. refl) ACTORS i j 0 l b
 
-    side : (v : Tick) → w ≡ v → _≡_ {A = Side} (record { start = t .start; asked = s }) (record { start = tickAt (runningIn f .starts) i; asked = shareOf v (runningIn f .iteration) })
-    side v e = ap₂ (λ (t : Tick) (s : Fraction). record { start = t; asked = s }) (start-read f i l et) (es ∙ ap₂ (λ (w : Tick) (h : Head). shareOf w (h .iteration)) e eh)
-
-    pub old-side : w ≡ tick (getD words (WORK-WORDS * i) 0) → _≡_ {A = Side} (record { start = t .start; asked = s }) (oldSide (runningIn f) i)
-    old-side e =
+    held : worksHeld words i ≡ getD (runningIn f .works) i noWorks
+    held =
         let z : WORK-WORDS * i ≡ WORK-WORDS * i + 0 = omega arith in
-        side (getD (runningIn f .works) i noWorks .since) (e ∙ ap (λ (n : ℕ). tick (getD words n 0)) z ∙ ap tick (word 0 (omega arith)))
+        ap₂ (λ (a b : ℕ). record { since = tick a; until = tick b }) (ap (λ (n : ℕ). getD words n 0) z ∙ word 0 (omega arith)) (word 1 (omega arith))
 
-    pub new-side : w ≡ tick (getD words (WORK-WORDS * i + 1) 0) → _≡_ {A = Side} (record { start = t .start; asked = s }) (newSide (runningIn f) i)
-    new-side e = side (getD (runningIn f .works) i noWorks .until) (e ∙ ap tick (word 1 (omega arith)))
+  -- an actor of the mode that is left, and one of the mode that is entered
+  module _ (i : ℕ) (l : i < ACTORS) {h : Head} {t : Times} {w : Works} {s : Fraction} (eh : h ≡ headIn f) (et : t ≡ timesIn f i) (ew : w ≡ worksHeld words i) where
+    side : (of : Works → Tick) → s ≡ shareOf (of w) (h .iteration)
+        → _≡_ {A = Side} (record { start = t .start; asked = s }) (record { start = tickAt (runningIn f .starts) i; asked = shareOf (of (getD (runningIn f .works) i noWorks)) (runningIn f .iteration) })
+    side of es = ap₂ (λ (t : Tick) (s : Fraction). record { start = t; asked = s }) (start-read f i l et) (es ∙ ap₂ (λ (w : Works) (h : Head). shareOf (of w) (h .iteration)) (ew ∙ held i l) eh)
+
+    pub old-side : s ≡ shareOf (w .since) (h .iteration) → _≡_ {A = Side} (record { start = t .start; asked = s }) (oldSide (runningIn f) i)
+    old-side = side (λ w. w .since)
+
+    pub new-side : s ≡ shareOf (w .until) (h .iteration) → _≡_ {A = Side} (record { start = t .start; asked = s }) (newSide (runningIn f) i)
+    new-side = side (λ w. w .until)
 
 -- the mode whose numbers are put into a front runs by them
 module _ (h : Head) (actors : List Actor) (firings : List Firing) (periods starts : List Tick) (la : length actors ≡ ACTORS) (lf : length firings ≡ ACTORS) (lp : length periods ≡ ACTORS) (ls : length starts ≡ ACTORS)

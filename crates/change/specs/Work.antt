@@ -2,7 +2,7 @@
 use mathlib.Core.Path.{_≡_}
 use mathlib.Core.Bool.{Bool, cond, _&&_}
 use mathlib.Core.List.{List, [], _∷_}
-use Prim.Native.Nat.{ℕ, _*_, _≤_, _<_}
+use Prim.Native.Nat.{ℕ, _+_, _*_, _≤_, _<_}
 use lib.Dec.{eqb, leb}
 use lib.ListN.{getD}
 use Rattle.numbers.specs.Sum.{sum}
@@ -58,6 +58,10 @@ WORKS-WORDS = WORK-WORDS * ACTORS
 
 abbrev pub workWords : Works → List ℕ
 workWords w = w .since .0 ∷ w .until .0 ∷ []
+
+-- the works of actor i, as the words of all works hold them
+abbrev pub worksHeld : List ℕ → ℕ → Works
+worksHeld l i = record { since = tick (getD l (WORK-WORDS * i) 0); until = tick (getD l (WORK-WORDS * i + 1) 0) }
 
 -- A mode as it runs: its active actors, their firings, periods and starts, its iteration, the tick set for the sink's first firing, and the tick at which its start-up ends;
 -- and of each actor the works on its processor.

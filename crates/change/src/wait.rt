@@ -1,5 +1,5 @@
 // How long a new mode waits for an old one.
-use crate::work::WORK_WORDS;
+use crate::work::held_at;
 use bits::has;
 use numbers::fraction::Fraction;
 use numbers::fraction::at_most;
@@ -70,10 +70,10 @@ fn waits(processor: usize, left: Side, new: &[u64], entering: &[u64], least: Tic
         if actor.processor == processor {
             let times = times_at(new, j);
             let start = times.start;
-            let until = Tick::of(entering[WORK_WORDS * j + 1]);
+            let works = held_at(entering, j);
             let entered = Side {
                 start: start,
-                asked: period::share(until, head.iteration),
+                asked: period::share(works.until, head.iteration),
             };
             most = wait(left, entered, most);
         }
@@ -100,10 +100,10 @@ pub(crate) fn offset_of(
         let start = times.start;
         if !start.at_most(most) {
             let actor = actor_at(old, i);
-            let since = Tick::of(leaving[WORK_WORDS * i]);
+            let works = held_at(leaving, i);
             let left = Side {
                 start: start,
-                asked: period::share(since, head.iteration),
+                asked: period::share(works.since, head.iteration),
             };
             most = waits(actor.processor, left, new, entering, most);
         }

@@ -11,7 +11,7 @@ ghost use lib.ListN.{length};
 ghost use Rattle.units.specs.Limits.{ACTORS as ACTORS-LIMIT};
 ghost use Rattle.units.specs.Ticks.{tick};
 ghost use Rattle.tables.specs.Memory.{FRONT-WORDS};
-ghost use Rattle.change.specs.Work.{WORK-WORDS, Fitting, workWords, worksOf, worksAt};
+ghost use Rattle.change.specs.Work.{WORK-WORDS, WORKS-WORDS, Fitting, workWords, worksHeld, worksOf, worksAt};
 ghost use Rattle.change.specs.Running.{runningIn};
 
 // The words of an actor's works: since, and until.
@@ -61,6 +61,18 @@ pub(crate) fn works_at(front: &[u64], i: usize) -> Works
     }
     let times = times_at(front, i);
     works_of(front, actor.processor, times.start)
+}
+
+// The works of actor i, as the words of all works hold them.
+pub(crate) fn held_at(works: &[u64], i: usize) -> Works
+    requires { ⌜ (length (now works) ≡ WORKS-WORDS) × (i < ACTORS-LIMIT) ⌝ }
+    ensures { λ r. ⌜ r ≡ worksHeld (now (works .entry)) i ⌝ }
+{
+    let at = WORK_WORDS * i;
+    Works {
+        since: Tick::of(works[at]),
+        until: Tick::of(works[at + 1]),
+    }
 }
 
 // The words of an actor's works.

@@ -31,10 +31,10 @@ loop-holds c = (omega arith, ap tick (omega arith))
 
 waits-requires : tie.Need-waits-requires Inv-loop μ-loop
 waits-requires c κs =
-    let t = c .before .before .before .before .before .before .before in
+    let t = c .before .before .before .before .before .before in
     let l = t .before .before in
     let s = l .before .before .before .before .before .before in
-    let side = old-side (s .pre .0) (l .loop .i) (t .before .loop-test .taken) (l .before .head-of .ensures) (t .times-at .ensures) (c .share .ensures) (c .before .of .ensures) in
+    let side = old-side (s .pre .0) (l .loop .i) (t .before .loop-test .taken) (l .before .head-of .ensures) (t .times-at .ensures) (c .before .held-at .ensures) (c .share .ensures) in
     (subst Part (sym (ap (λ (x : Side). x .asked) side)) (since-part _ (s .pre .0 .ready) (l .loop .i) (t .before .loop-test .taken)), s .pre .1)
 
 loop-again : tie.Need-loop-again Inv-loop μ-loop
@@ -48,11 +48,11 @@ loop-again c =
     let n = runningIn (s .args .new .now) in (
       omega arith,
       ⊎-elim
-          (λ w. w .6
+          (λ w. w .5
           ∙ waits-more limitOf (runningIn f) n (s .args .least) i (l .loop .inv .1)
-          (w .5 .ensures
+          (w .4 .ensures
           ∙ ap₂ (λ (a : Actor) (x : Side). greaterTick (l .loop .most) (tick (waitsOn limitOf (a .processor) x n))) (actor-read f i below (w .1 .ensures))
-          (old-side (s .pre .0) i below (l .before .head-of .ensures) (t .times-at .ensures) (w .4 .ensures) (w .3 .ensures))))
+          (old-side (s .pre .0) i below (l .before .head-of .ensures) (t .times-at .ensures) (w .2 .ensures) (w .3 .ensures))))
           (λ w. w .1
           ∙ waits-no-more limitOf (runningIn f) n (s .args .least) i (l .loop .inv .1)
           (subst (λ (x : Tick). x .0 ≤ l .loop .most .0) (start-read f i below (t .times-at .ensures)) (decides-true (c .before .at-most .ensures) (not-false (c .before .at-most .result) (w .0 .left)))))
@@ -73,10 +73,7 @@ offset-of-spec =
     (λ c κs. omega arith)
     (λ c κs. search needs)
     (λ c κs. omega arith)
-    (λ c. omega arith)
-    (λ c. omega arith)
-    (λ c. omega (arith, length-works (c .before .before .before .before .before .before .before .before .before .before .before .before .before .pre .0)))
-    (λ c κs. search needs)
+    (λ c κs. (length-works (c .before .before .before .before .before .before .before .before .before .before .before .before .pre .0), omega arith))
     (λ c κs. search needs)
     waits-requires
     (λ c. omega arith)

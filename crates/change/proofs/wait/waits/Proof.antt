@@ -28,10 +28,10 @@ loop-holds c = (omega arith, ap tick (omega arith))
 
 wait-requires : tie.Need-wait-requires Inv-loop μ-loop
 wait-requires c κs =
-    let t = c .before .before .before .before in
+    let t = c .before .before .before in
     let l = t .before .before .before .before .before in
     let s = l .before .before .before .before in
-    let side = new-side (s .pre .1) (l .loop .j) (omega arith) (l .before .head-of .ensures) (t .times-at .ensures) (c .share .ensures) (c .before .of .ensures) in
+    let side = new-side (s .pre .1) (l .loop .j) (omega arith) (l .before .head-of .ensures) (t .times-at .ensures) (c .before .held-at .ensures) (c .share .ensures) in
     (s .pre .0, subst Part (sym (ap (λ (x : Side). x .asked) side)) (until-part _ (s .pre .1 .ready) (l .loop .j) (omega arith)))
 
 loop-again : tie.Need-loop-again Inv-loop μ-loop
@@ -42,9 +42,9 @@ loop-again c =
     let on = ap (λ (x : Actor). x .processor) (actor-read (s .args .new .now) (l .loop .j) (omega arith) (c .before .before .actor-at .ensures)) in (
       omega arith,
       ⊎-elim
-          (λ w. w .7
+          (λ w. w .6
           ∙ wait-more limitOf (s .args .processor) (s .args .left) n (s .args .least) (l .loop .j) (l .loop .inv .1) (sym on ∙ w .0 .taken)
-          (w .6 .ensures ∙ ap (λ (x : Side). greaterTick (l .loop .most) (waitOf LOAD-LIMIT (s .args .left) x)) (new-side (s .pre .1) (l .loop .j) (omega arith) (l .before .head-of .ensures) (w .1 .ensures) (w .5 .ensures) (w .4 .ensures))))
+          (w .5 .ensures ∙ ap (λ (x : Side). greaterTick (l .loop .most) (waitOf LOAD-LIMIT (s .args .left) x)) (new-side (s .pre .1) (l .loop .j) (omega arith) (l .before .head-of .ensures) (w .1 .ensures) (w .3 .ensures) (w .4 .ensures))))
           (λ w. w .1 ∙ wait-no-more limitOf (s .args .processor) (s .args .left) n (s .args .least) (l .loop .j) (l .loop .inv .1) (λ e. w .0 .left (on ∙ e)))
           (c .if1 .came),
     )
@@ -62,11 +62,7 @@ waits-spec =
     loop-holds
     (λ c κs. omega arith)
     (λ c κs. omega arith)
-    (λ c. omega arith)
-    (λ c. omega arith)
-    (λ c. omega arith)
-    (λ c. omega (arith, length-works (c .before .before .before .before .before .before .before .before .before .before .before .pre .1)))
-    (λ c κs. search needs)
+    (λ c κs. (length-works (c .before .before .before .before .before .before .before .before .before .before .pre .1), omega arith))
     (λ c κs. search needs)
     wait-requires
     (λ c. omega arith)
