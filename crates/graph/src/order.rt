@@ -12,7 +12,7 @@ ghost use Prim.Native.Nat.{_<_};
 ghost use lib.ListN.{length};
 ghost use Rattle.units.specs.Limits.{ACTORS};
 ghost use Rattle.tables.specs.Memory.{modeIn, Stands};
-ghost use Rattle.graph.specs.Rounds.{predsOf, moved as movedOf, roundFrom, orderOf};
+ghost use Rattle.graph.specs.Rounds.{predsOf, roundFrom, orderOf};
 
 // The actors that are done, those that are left, and the depths of those that are done.
 pub(crate) struct Order {
@@ -36,19 +36,7 @@ pub(crate) fn preds_of(front: &[u64], channels: &[u8]) -> [u16; ACTORS]
     preds
 }
 
-// Actor i is shifted in and removed.
-fn moved(now: Order, i: usize, depth: usize) -> Order
-    requires { ⌜ i < ACTORS ⌝ }
-    ensures { λ r. ⌜ r ≡ movedOf now i depth ⌝ }
-{
-    let mut next = now;
-    next.done = with(next.done, i);
-    next.left = without(next.left, i);
-    next.depths[i] = depth;
-    next
-}
-
-// Each actor that is left and whose predecessors were all done before is moved.
+// Each actor that is left and whose predecessors were all done before is shifted in and removed.
 fn round(preds: [u16; ACTORS], before: Order, depth: usize) -> Order
     requires { ⌜ length preds ≡ ACTORS ⌝ }
     ensures { λ r. ⌜ r ≡ roundFrom preds before depth ACTORS ⌝ }
@@ -57,7 +45,9 @@ fn round(preds: [u16; ACTORS], before: Order, depth: usize) -> Order
     for i in 0..ACTORS {
         if has(before.left, i) {
             if within(preds[i], before.done) {
-                next = moved(next, i, depth);
+                next.done = with(next.done, i);
+                next.left = without(next.left, i);
+                next.depths[i] = depth;
             }
         }
     }

@@ -1,10 +1,11 @@
 -- graph::order::round meets its contract. The invariant: the actors below i are moved that were ready before. Assumes nothing.
 use borrow.Author.Needs.{needs}
-use mathlib.Core.Path.{_≡_, refl, ap, _∙_}
+use mathlib.Core.Path.{_≡_, refl, ap, ap₂, _∙_}
 use mathlib.Core.Logic.{⊎-elim}
-use Prim.Native.Nat.{_≤_, _-_}
+use Prim.Native.Nat.{ℕ, _≤_, _-_}
 use native.Mathlib.Omega.{arith}
-use Rattle.numbers.specs.Bits.{has-is, within-is}
+use lib.ListN.{set}
+use Rattle.numbers.specs.Bits.{has-is, within-is, with-is, without-is}
 use Rattle.units.specs.Limits.{ACTORS}
 use Rattle.graph.specs.declared.order.Order.{Order}
 use Rattle.graph.specs.Rounds.{moved, roundFrom}
@@ -30,7 +31,9 @@ loop-again c =
           rw round-next
           (⊎-elim
           (λ w. rw (has ∙ w .0 .taken, within-is _ _ _ (w .1 .ensures) ∙ w .2 .taken)
-          (w .4 ∙ w .3 .ensures ∙ ap (λ (o : Order). moved o (l .loop .i) (l .before .args .depth)) (l .loop .inv .1)))
+          (w .5
+          ∙ ap₂ (λ (x y : ℕ). record { done = x; left = y; depths = set (l .loop .next .depths) (l .loop .i) (l .before .args .depth) }) (with-is _ _ (w .3 .ensures)) (without-is _ _ (w .4 .ensures))
+          ∙ ap (λ (o : Order). moved o (l .loop .i) (l .before .args .depth)) (l .loop .inv .1)))
           (⊎-elim
           (λ w. rw (has ∙ w .0 .taken, within-is _ _ _ (w .1 .ensures) ∙ w .2 .left) (w .3 ∙ l .loop .inv .1))
           (λ w. rw (has ∙ w .0 .left) (w .1 ∙ l .loop .inv .1)))
@@ -52,6 +55,9 @@ round-spec =
     (λ c. search needs)
     (λ c κs. search needs)
     (λ c κs. search needs)
+    (λ c κs. search needs)
+    (λ c. search needs)
+    (λ c. search needs)
     (λ c. omega arith)
     (λ c. omega arith)
     loop-again
