@@ -1,16 +1,17 @@
 -- Laws of bytes laid over a buffer. Assumes nothing.
-use mathlib.Core.Path.{_≡_, refl, sym, ap, subst, _∙_}
+use mathlib.Core.Path.{_≡_, refl, sym, ap, ap₂, subst, _∙_}
 use mathlib.Core.Bool.{Bool, true, false}
-use mathlib.Core.List.{List, [], _++_, append-nil}
+use mathlib.Core.List.{List, [], _++_, append-assoc, append-nil}
 use Prim.Native.Nat.{ℕ, zero, suc, _+_, _-_, _≤_, _<_}
 use native.Mathlib.Numerals.{add-one}
 use native.Mathlib.Omega.{arith}
 use lib.Dec.{leb}
-use lib.ListN.{length, set, replicate, length-append, length-replicate, drop-of-length-le, replicate-append-replicate}
-use lib.Seq.{sets-eq}
+use lib.ListN.{length, take, drop, replicate, length-append, length-take, length-drop, length-replicate, drop-of-length-le}
+use lib.Seq.{sets-eq, drop-drop}
+use borrow.Rule.Slice.PartMut.{putMid}
 use borrow.Author.Tests.{leb-true, leb-false}
 use Rattle.csv.specs.Laid.{Room, Laid}
-use Rattle.csv.proofs.Laying.{laid-none, laid-byte, laid-length, laid-then, room-then}
+use Rattle.csv.proofs.Laying.{laid-none, laid-length, laid-then, room-then}
 use Rattle.printer.specs.Texts.{texts}
 use Rattle.printer.specs.Printed.{PRINTED, Shows}
 
@@ -21,11 +22,19 @@ laid-all {l} {k} {s} a e =
     let g : length l ≤ 0 + length s = omega arith in
     a .is ∙ sets-eq s l 0 h ∙ ap (λ (r : List ℕ). s ++ r) (drop-of-length-le l g) ∙ append-nil s
 
--- one 0 more
-pub laid-blank : {l k : List ℕ} {from i : ℕ} → from ≤ i → Laid l from (replicate (i - from) 0) k i → Laid l from (replicate (i + 1 - from) 0) (set k i 0) (i + 1)
-laid-blank {l} {k} {from} {i} h a =
-    let e : i + 1 - from ≡ i - from + 1 = omega arith in
-    rw (e, ← replicate-append-replicate {A = ℕ} (i - from) 1 0) (laid-then a (laid-byte k i 0))
+-- nothing but 0 in the place of all that stands from a place on
+pub laid-cleared : (l : List ℕ) (from k : ℕ) {b : List ℕ} → from ≤ length l → k ≡ length l - from → b ≡ replicate (length (take k (drop from l))) 0
+    → Laid l from (replicate (length l - from) 0) (putMid from k l b) (length l)
+laid-cleared l from k h e g =
+    let zeros = replicate {A = ℕ} (length l - from) 0 in
+    let many : length zeros ≡ length l - from = length-replicate (length l - from) 0 in
+    let lent : length (take k (drop from l)) ≡ length l - from = length-take k (drop from l) ∙ simp length-drop (omega arith) in
+    let behind : from + k ≡ from + length zeros = omega arith in
+    record {
+      ends = omega arith;
+      is = ap₂ (λ (x y : List ℕ). take from l ++ (x ++ y)) (g ∙ ap (λ (n : ℕ). replicate {A = ℕ} n 0) lent) (drop-drop k from l ∙ ap (λ (n : ℕ). drop n l) behind)
+          ∙ sym (append-assoc (take from l) zeros (drop (from + length zeros) l)) ∙ sym (sets-eq zeros l from (omega arith));
+    }
 
 module _ (f : ℕ → List ℕ) where
   pub texts-none : texts f 0 ≡ []

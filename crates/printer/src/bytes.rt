@@ -2,6 +2,7 @@
 use csv::writing::crlf;
 use csv::writing::field;
 use csv::writing::word;
+use tables::memory::clear_bytes;
 ghost use Prim.Native.Nat.{_-_, _≤_};
 ghost use lib.ListN.{length, replicate};
 ghost use Rattle.csv.specs.Laid.{Room, Laid};
@@ -29,9 +30,5 @@ pub(crate) fn blank(out: &mut [u8], from: usize)
     requires { ⌜ from ≤ length (now out) ⌝ }
     ensures { λ _. ⌜ Laid (now (out .entry)) from (replicate (length (now (out .entry)) - from) 0) (now (out .exit)) (length (now (out .entry))) ⌝ }
 {
-    let mut i = from;
-    while i < out.len() {
-        out[i] = 0;
-        i += 1;
-    }
+    clear_bytes(&mut out[from..]);
 }
