@@ -25,8 +25,8 @@ use Rattle.tables.specs.Memory.{frontWords, headIn, actorIn, timesIn}
 use Rattle.tables.proofs.Remembered.{front-head, front-actor, front-times}
 use Rattle.change.specs.declared.Works.{Works}
 use Rattle.change.specs.declared.wait.Side.{Side}
-use Rattle.change.specs.Work.{WORK-WORDS, WORKS-WORDS, Fitting, preparedOf, actorOf, firingsAt, tickAt, countedOf, noWorks, workWords, worksHeld}
-use Rattle.change.specs.Running.{runningIn, ReadyFront}
+use Rattle.change.specs.Work.{WORK-WORDS, WORKS-WORDS, actorOf, firingsAt, tickAt, countedOf, noWorks, workWords, worksHeld}
+use Rattle.change.specs.Running.{Fitting, preparedOf, runningIn, ReadyFront}
 use Rattle.change.specs.Waits.{oldSide, newSide}
 use Rattle.change.proofs.Loads.{counted-one}
 

@@ -22,9 +22,9 @@ use Rattle.units.specs.declared.Firing.{Firing}
 use Rattle.period.specs.Period.{workOf, shareOf}
 use Rattle.tables.specs.declared.Actor.{Actor}
 use Rattle.graph.specs.Load.{isOn, askedBy, askedOf}
-use Rattle.change.specs.Work.{Running, Fitting, actorOf, firingsAt, noWorks, countedOf, worksOf}
+use Rattle.change.specs.Work.{actorOf, firingsAt, noWorks, countedOf, worksOf}
 use Rattle.change.specs.Change.{periodIn, startOf}
-use Rattle.change.specs.Running.{modeTimes, Ready}
+use Rattle.change.specs.Running.{Running, Fitting, modeTimes, Ready}
 
 -- the work of those below k that are on processor p and count
 abbrev pub workOn : Running → ℕ → (ℕ → Bool) → ℕ → Tick

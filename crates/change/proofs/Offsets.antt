@@ -27,8 +27,8 @@ use Rattle.tables.specs.declared.Actor.{Actor}
 use Rattle.tables.specs.Shape.{Active}
 use Rattle.graph.specs.Load.{isOn, askedOf}
 use Rattle.change.specs.Change.{periodIn, startOf, askedOn, loadAt, Bearable, Bears, Overlap, Offset}
-use Rattle.change.specs.Work.{Running, tickAt, noWorks, worksAt}
-use Rattle.change.specs.Running.{modeTimes, Ready}
+use Rattle.change.specs.Work.{tickAt, noWorks, worksAt}
+use Rattle.change.specs.Running.{Running, modeTimes, Ready}
 use Rattle.change.specs.Waits.{Part, leadOf, overlapOf, processorAt, oldSide, newSide, waitOf, waitOn, waitsOn, waitsFor, longestWait, offsetFrom}
 use Rattle.change.proofs.Loads.{workIn, work-within, FromFirst, work-first, ToLast, work-last, work-nowhere, on-is, Counting, asked-proper, asked-work}
 

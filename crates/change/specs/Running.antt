@@ -6,14 +6,51 @@ use lib.ListN.{length, getD}
 use Rattle.numbers.specs.Bits.{Has}
 use Rattle.numbers.specs.Joined.{joined}
 use Rattle.numbers.specs.Tab.{tab}
-use Rattle.units.specs.Bounds.{MOST-START}
-use Rattle.units.specs.Limits.{ACTORS, ITERATION-LIMIT, limitOf}
+use Rattle.units.specs.Bounds.{MOST-FIRINGS, MOST-START}
+use Rattle.units.specs.Limits.{ACTORS, ITERATION-LIMIT, MOST-WCET, limitOf}
+use Rattle.units.specs.declared.Firing.{Firing}
 use Rattle.units.specs.declared.Tick.{Tick}
+use Rattle.tables.specs.declared.Actor.{Actor}
 use Rattle.tables.specs.Shape.{noActor, actorAt, Active}
 use Rattle.tables.specs.Proper.{ProperActor}
 use Rattle.tables.specs.Memory.{FRONT-WORDS, headIn, actorIn, timesIn}
 use Rattle.change.specs.Change.{ModeTimes, periodIn, startOf, Bearable}
-use Rattle.change.specs.Work.{Running, preparedOf, firingsAt, worksAt, noWorks, workWords}
+use Rattle.change.specs.declared.Works.{Works}
+use Rattle.change.specs.Work.{actorOf, firingsAt, worksAt, noWorks, workWords}
+
+-- A mode as it runs: its active actors, their firings, periods and starts, its iteration, the tick set for the sink's first firing, and the tick at which its start-up ends;
+-- and of each actor the works on its processor.
+pub record Running : Type 0 where
+  pub active : ℕ
+  pub actors : List Actor
+  pub iteration : Tick
+  pub firings : List Firing
+  pub periods : List Tick
+  pub starts : List Tick
+  pub sinkStart : Tick
+  pub startup : Tick
+  pub works : List Works
+
+-- its actors and firings are within their ranges, and one without a processor has no wcet
+pub record Fitting (r : Running) : Type 0 where
+  pub wcet : (i : ℕ) → i < ACTORS → actorOf (r .actors) i .wcet .0 ≤ MOST-WCET .0
+  pub few : (i : ℕ) → i < ACTORS → firingsAt (r .firings) i .0 ≤ MOST-FIRINGS .0
+  pub nowhere : (i : ℕ) → i < ACTORS → actorOf (r .actors) i .processor ≡ 0 → actorOf (r .actors) i .wcet .0 ≡ 0
+
+-- a mode with these numbers, as it runs
+abbrev pub preparedOf : ℕ → List Actor → Tick → List Firing → List Tick → List Tick → Tick → Tick → Running
+preparedOf active actors iteration firings periods starts sinkStart startup =
+    record {
+      active = active;
+      actors = actors;
+      iteration = iteration;
+      firings = firings;
+      periods = periods;
+      starts = starts;
+      sinkStart = sinkStart;
+      startup = startup;
+      works = tab ACTORS (worksAt actors firings starts);
+    }
 
 -- the start-up of the mode that a front holds ends with the start of its sink
 abbrev pub startupIn : List ℕ → Tick

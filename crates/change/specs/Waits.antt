@@ -14,8 +14,8 @@ use Rattle.units.specs.declared.Tick.{Tick}
 use Rattle.period.specs.Period.{shareOf}
 use Rattle.change.specs.declared.wait.Side.{Side}
 use Rattle.change.specs.Change.{startOf}
-use Rattle.change.specs.Work.{Running, actorOf, tickAt, noWorks}
-use Rattle.change.specs.Running.{modeTimes}
+use Rattle.change.specs.Work.{actorOf, tickAt, noWorks}
+use Rattle.change.specs.Running.{Running, modeTimes}
 
 -- a part of an iteration
 pub record Part (a : Fraction) : Type 0 where

@@ -1,14 +1,11 @@
 -- The work of a mode's actors in an iteration, summed over those of a processor that start no earlier or no later than one of them.
-use mathlib.Core.Path.{_≡_}
 use mathlib.Core.Bool.{Bool, cond, _&&_}
 use mathlib.Core.List.{List, [], _∷_}
-use Prim.Native.Nat.{ℕ, _+_, _*_, _≤_, _<_}
+use Prim.Native.Nat.{ℕ, _+_, _*_}
 use lib.Dec.{eqb, leb}
 use lib.ListN.{getD}
 use Rattle.numbers.specs.Sum.{sum}
-use Rattle.numbers.specs.Tab.{tab}
-use Rattle.units.specs.Bounds.{MOST-FIRINGS}
-use Rattle.units.specs.Limits.{ACTORS, MOST-WCET}
+use Rattle.units.specs.Limits.{ACTORS}
 use Rattle.units.specs.Firings.{firing}
 use Rattle.units.specs.Ticks.{tick}
 use Rattle.units.specs.declared.Tick.{Tick}
@@ -62,37 +59,3 @@ workWords w = w .since .0 ∷ w .until .0 ∷ []
 -- the works of actor i, as the words of all works hold them
 abbrev pub worksHeld : List ℕ → ℕ → Works
 worksHeld l i = record { since = tick (getD l (WORK-WORDS * i) 0); until = tick (getD l (WORK-WORDS * i + 1) 0) }
-
--- A mode as it runs: its active actors, their firings, periods and starts, its iteration, the tick set for the sink's first firing, and the tick at which its start-up ends;
--- and of each actor the works on its processor.
-pub record Running : Type 0 where
-  pub active : ℕ
-  pub actors : List Actor
-  pub iteration : Tick
-  pub firings : List Firing
-  pub periods : List Tick
-  pub starts : List Tick
-  pub sinkStart : Tick
-  pub startup : Tick
-  pub works : List Works
-
--- its actors and firings are within their ranges, and one without a processor has no wcet
-pub record Fitting (r : Running) : Type 0 where
-  pub wcet : (i : ℕ) → i < ACTORS → actorOf (r .actors) i .wcet .0 ≤ MOST-WCET .0
-  pub few : (i : ℕ) → i < ACTORS → firingsAt (r .firings) i .0 ≤ MOST-FIRINGS .0
-  pub nowhere : (i : ℕ) → i < ACTORS → actorOf (r .actors) i .processor ≡ 0 → actorOf (r .actors) i .wcet .0 ≡ 0
-
--- a mode with these numbers, as it runs
-abbrev pub preparedOf : ℕ → List Actor → Tick → List Firing → List Tick → List Tick → Tick → Tick → Running
-preparedOf active actors iteration firings periods starts sinkStart startup =
-    record {
-      active = active;
-      actors = actors;
-      iteration = iteration;
-      firings = firings;
-      periods = periods;
-      starts = starts;
-      sinkStart = sinkStart;
-      startup = startup;
-      works = tab ACTORS (worksAt actors firings starts);
-    }

@@ -14,9 +14,9 @@ use units::limits::ACTORS;
 ghost use mathlib.Core.Path.{_≡_};
 ghost use lib.ListN.{length};
 ghost use Rattle.tables.specs.Memory.{FRONT-WORDS};
-ghost use Rattle.change.specs.Work.{WORKS-WORDS, Fitting};
+ghost use Rattle.change.specs.Work.{WORKS-WORDS};
 ghost use Rattle.change.specs.Change.{Changes};
-ghost use Rattle.change.specs.Running.{runningIn, worksWords, modeTimes, ReadyFront};
+ghost use Rattle.change.specs.Running.{Fitting, runningIn, worksWords, modeTimes, ReadyFront};
 
 // The words of the works of all actors.
 pub const WORKS_WORDS: usize = WORK_WORDS * ACTORS;

@@ -11,8 +11,8 @@ ghost use lib.ListN.{length};
 ghost use Rattle.units.specs.Limits.{ACTORS as ACTORS-LIMIT};
 ghost use Rattle.units.specs.Ticks.{tick};
 ghost use Rattle.tables.specs.Memory.{FRONT-WORDS};
-ghost use Rattle.change.specs.Work.{WORK-WORDS, WORKS-WORDS, Fitting, workWords, worksHeld, worksOf, worksAt};
-ghost use Rattle.change.specs.Running.{runningIn};
+ghost use Rattle.change.specs.Work.{WORK-WORDS, WORKS-WORDS, workWords, worksHeld, worksOf, worksAt};
+ghost use Rattle.change.specs.Running.{Fitting, runningIn};
 
 // The words of an actor's works: since, and until.
 pub(crate) const WORK_WORDS: usize = 2;

@@ -8,7 +8,6 @@ use tables::memory::channel_at;
 use tables::memory::head_of;
 use units::limits::ACTORS;
 ghost use mathlib.Core.Path.{_≡_};
-ghost use Prim.Native.Nat.{_<_};
 ghost use lib.ListN.{length};
 ghost use Rattle.units.specs.Limits.{ACTORS};
 ghost use Rattle.tables.specs.Memory.{modeIn, Stands};

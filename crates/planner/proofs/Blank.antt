@@ -21,8 +21,7 @@ use Rattle.tables.specs.Shape.{Mode, noActor, noChannel, emptyChannel, emptyMod
 use Rattle.tables.specs.Proper.{ProperMode}
 use Rattle.tables.specs.Grown.{empty-proper}
 use Rattle.tables.specs.Memory.{FRONT-WORDS, headOf, modeIn}
-use Rattle.change.specs.Work.{preparedOf}
-use Rattle.change.specs.Running.{runningIn}
+use Rattle.change.specs.Running.{preparedOf, runningIn}
 use Rattle.change.proofs.Fronts.{running-in}
 use Rattle.planning.specs.declared.ModePlan.{ModePlan}
 use Rattle.planning.specs.declared.Answer.the-variants.{Planned as IsPlanned}

@@ -21,8 +21,7 @@ use Rattle.tables.specs.Memory.{FRONT-WORDS, actorIn}
 use Rattle.tables.specs.Parts.{AtHome, housedOf}
 use Rattle.tables.proofs.Housing.{Housed, housed-next, at-home-all, housed-decides}
 use Rattle.change.specs.declared.Timing.{Timing}
-use Rattle.change.specs.Work.{Running, Fitting}
-use Rattle.change.specs.Running.{runningIn, Ready}
+use Rattle.change.specs.Running.{Running, Fitting, runningIn, Ready}
 use Rattle.planning.specs.declared.ModePlan.{ModePlan}
 use Rattle.planning.specs.declared.Answer.the-variants.{Planned as IsPlanned}
 use Rattle.planning.specs.Shape.{Plan}

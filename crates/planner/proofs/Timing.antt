@@ -21,8 +21,8 @@ use Rattle.tables.specs.declared.memory.Head.{Head}
 use Rattle.tables.specs.Memory.{FRONT-WORDS, headIn}
 use Rattle.change.specs.declared.Timing.{Timing}
 use Rattle.change.specs.Change.{Changes}
-use Rattle.change.specs.Work.{Running, Fitting, WORK-WORDS, WORKS-WORDS, noWorks, workWords}
-use Rattle.change.specs.Running.{runningIn, worksWords, modeTimes, Ready, ReadyFront}
+use Rattle.change.specs.Work.{WORK-WORDS, WORKS-WORDS, noWorks, workWords}
+use Rattle.change.specs.Running.{Running, Fitting, runningIn, worksWords, modeTimes, Ready, ReadyFront}
 use Rattle.planning.specs.Nothing.{noTiming}
 use Rattle.planning.specs.Changes.{noRunning, runningAt, Between, ChangeOf, FoundChanges}
 use Rattle.planning.proofs.Reckoned.{changesOf, changes-found}

@@ -10,8 +10,8 @@ use Rattle.numbers.specs.Tab.{tab}
 use Rattle.units.specs.Limits.{MODES, ACTORS}
 use Rattle.tables.specs.Memory.{FRONT-WORDS, headIn}
 use Rattle.change.specs.declared.Timing.{Timing}
-use Rattle.change.specs.Work.{Running, Fitting, WORKS-WORDS}
-use Rattle.change.specs.Running.{runningIn, worksWords, Ready}
+use Rattle.change.specs.Work.{WORKS-WORDS}
+use Rattle.change.specs.Running.{Running, Fitting, runningIn, worksWords, Ready}
 use Rattle.planning.specs.Changes.{FoundChanges}
 use Rattle.layout.specs.Words.{MODE-WORDS, changesWords}
 

@@ -10,7 +10,7 @@ use Rattle.units.specs.Limits.{MODES}
 use Rattle.terms.specs.declared.refusal.Refusal.{Refusal}
 use Rattle.tables.specs.Shape.{Table, modeAt}
 use Rattle.tables.specs.Proper.{ProperTable}
-use Rattle.change.specs.Work.{Running}
+use Rattle.change.specs.Running.{Running}
 use Rattle.change.specs.declared.Timing.{Timing}
 use Rattle.planning.specs.declared.ModePlan.{ModePlan}
 use Rattle.planning.specs.Shape.{Plan}

@@ -23,10 +23,9 @@ use Rattle.schedule.specs.declared.Timing.{Timing as Lateness}
 use Rattle.schedule.specs.declared.Timing.the-variants.{Late, OnTime}
 use Rattle.schedule.specs.Model.{scheduleOf}
 use Rattle.schedule.proofs.Modelled.{schedule-scheduled}
-use Rattle.change.specs.Work.{Running}
 use Rattle.change.specs.declared.Timing.{Timing}
 use Rattle.change.specs.Change.{worstOf}
-use Rattle.change.specs.Running.{modeTimes, Ready}
+use Rattle.change.specs.Running.{Running, modeTimes, Ready}
 use Rattle.change.specs.Waits.{overlapOf, offsetFrom}
 use Rattle.change.proofs.Offsets.{found}
 use Rattle.planning.specs.declared.ModePlan.{ModePlan}

@@ -28,9 +28,8 @@ use Rattle.graph.specs.Judged.{ofActors}
 use Rattle.graph.specs.Laws.{iteration-pos, period-whole, period-fits}
 use Rattle.schedule.specs.Starts.{Late}
 use Rattle.schedule.proofs.Sound.{at-actor}
-use Rattle.change.specs.Work.{Fitting}
 use Rattle.change.specs.Change.{periodIn, Bearable}
-use Rattle.change.specs.Running.{modeTimes, Ready}
+use Rattle.change.specs.Running.{Fitting, modeTimes, Ready}
 use Rattle.planning.specs.declared.ModePlan.{ModePlan}
 use Rattle.planning.specs.Nothing.{noPart}
 use Rattle.planning.specs.Plan.{Listed, ModePlanned, timesOf}

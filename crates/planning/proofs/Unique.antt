@@ -29,7 +29,7 @@ use Rattle.graph.proofs.Unique.{only-unique, of-actors, smallest-same, lengths-
 use Rattle.schedule.specs.Starts.{Starts, Late}
 use Rattle.schedule.specs.Scheduled.{Scheduled}
 use Rattle.schedule.proofs.Unique.{starts-unique, scheduled-unique}
-use Rattle.change.specs.Work.{Running}
+use Rattle.change.specs.Running.{Running}
 use Rattle.change.specs.declared.Timing.{Timing}
 use Rattle.change.specs.Change.{Changes, changes-unique}
 use Rattle.planning.specs.declared.ModePlan.{ModePlan}

@@ -9,8 +9,7 @@ use Rattle.units.specs.Limits.{MODES}
 use Rattle.tables.specs.Shape.{Mode}
 use Rattle.change.specs.declared.Timing.{Timing}
 use Rattle.change.specs.Change.{Changes}
-use Rattle.change.specs.Work.{Running, preparedOf}
-use Rattle.change.specs.Running.{modeTimes, Ready}
+use Rattle.change.specs.Running.{Running, preparedOf, modeTimes, Ready}
 use Rattle.planning.specs.declared.ModePlan.{ModePlan}
 use Rattle.planning.specs.Nothing.{noTiming}
 

@@ -9,7 +9,7 @@ use Rattle.units.specs.Limits.{MODES}
 use Rattle.terms.specs.Place.{numberOf}
 use Rattle.terms.specs.declared.refusal.Refusal.{Refusal}
 use Rattle.tables.specs.Shape.{Mode, Table, modeAt}
-use Rattle.change.specs.Work.{Running}
+use Rattle.change.specs.Running.{Running}
 use Rattle.graph.specs.declared.Judgement.{Judgement}
 use Rattle.schedule.specs.declared.Timetable.{Timetable}
 use Rattle.planning.specs.declared.ModePlan.{ModePlan}
