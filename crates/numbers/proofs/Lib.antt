@@ -1,4 +1,5 @@
--- What belongs to no one function.
+-- What the proofs lean on.
 pub mod Laid
 pub mod Settles
+mod Halving
 mod Settled

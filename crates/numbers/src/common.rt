@@ -1,18 +1,31 @@
 // Common divisors and multiples.
 ghost use Rattle.numbers.specs.Common.{IsGcd, IsLcmWithin};
 
-// The greatest common divisor, by Euclid's steps.
+// The greatest common divisor, by halving: the zeros that both numbers end in are put back, and all others count for nothing.
 pub fn gcd(a: u64, b: u64) -> u64
     ensures { λ r. ⌜ IsGcd a b r ⌝ }
 {
-    let mut x = a;
-    let mut y = b;
-    while y != 0 {
-        let r = x % y;
-        x = y;
-        y = r;
+    if a == 0 {
+        return b;
     }
-    x
+    if b == 0 {
+        return a;
+    }
+    let zeros_a = u64::trailing_zeros(a);
+    let zeros_b = u64::trailing_zeros(b);
+    let shared = if zeros_a < zeros_b { zeros_a } else { zeros_b };
+    let mut x = a >> zeros_a;
+    let mut y = b >> zeros_b;
+    while x != y {
+        if x < y {
+            let lesser = x;
+            x = y;
+            y = lesser;
+        }
+        x = x - y;
+        x = x >> u64::trailing_zeros(x);
+    }
+    x << shared
 }
 
 // The same at 32 bits.
