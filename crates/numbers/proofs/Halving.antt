@@ -1,7 +1,7 @@
 -- Halving: what is kept of the common divisors of two numbers where the zeros that a number ends in are dropped, and how the shared ones are put back.
 use mathlib.Core.Path.{_≡_, refl, sym, ap, subst, subst₂, _∙_}
 use Prim.Native.Nat.{ℕ, zero, suc, _+_, _-_, _*_, _/_, _%_, _^_, _≤_, _<_, _∣_, min, suc-le-suc, zero-le}
-use native.Mathlib.Nat.{dvd-refl, dvd-sub, dvd-sub-iff-left, dvd-add-iff-right, dvd-mul-left-of-dvd, dvd-mul-right-of-dvd, div-div-eq-div-mul, div-one, mod-eq-of-lt}
+use native.Mathlib.Nat.{dvd-refl, dvd-sub, dvd-sub-iff-left, dvd-mul-left-of-dvd, dvd-mul-right-of-dvd, div-div-eq-div-mul, div-one, mod-eq-of-lt}
 use native.Mathlib.Nat.{mul-one, mul-assoc, mul-comm, mul-left-comm, pow-suc, pow-succ', min-eq-left, min-eq-right}
 use native.Mathlib.Omega.{arith}
 use native.Mathlib.Decide.{decLe}
@@ -40,26 +40,21 @@ ends-in (suc k) n pos h =
         }
     go (suc r) e half = record { fewer = suc-le-suc zero-le; odd = rw div-one (omega arith); whole = rw (div-one, mul-one) }
 
--- what divides an odd number and a number with zeros put behind it divides that number
-odd-half : (d x z : ℕ) → Odd x → d ∣ x → d ∣ z * 2 → d ∣ z
-odd-half d x z o l r =
+-- what divides an odd number and twice another one divides that other one
+odd-half : (d x y : ℕ) → Odd x → d ∣ x → d ∣ y * 2 → d ∣ y
+odd-half d x y o l r =
     let h : x / 2 * 2 + 1 ≡ x = omega arith in
-    let e : x / 2 * (z * 2) + z ≡ z * x = omega (arith, ap (λ (w : ℕ). z * w) h) in
-    dvd-add-iff-right d (dvd-mul-left-of-dvd d r (x / 2)) .1 (subst (λ (w : ℕ). d ∣ w) (sym e) (dvd-mul-left-of-dvd d l z))
+    let e : y * x - x / 2 * (y * 2) ≡ y = omega (arith, ap (λ (w : ℕ). y * w) h) in
+    subst (λ (w : ℕ). d ∣ w) e (dvd-sub d (dvd-mul-left-of-dvd d l y) (dvd-mul-left-of-dvd d r (x / 2)))
 
-odd-dvd : (d x y t : ℕ) → Odd x → d ∣ x → d ∣ y * 2 ^ t → d ∣ y
-odd-dvd d x y zero o l r = subst (λ (w : ℕ). d ∣ w) (mul-one y) r
-odd-dvd d x y (suc t) o l r =
-    odd-dvd d x y t o l (odd-half d x (y * 2 ^ t) o l (subst (λ (w : ℕ). d ∣ w) (ap (λ (w : ℕ). y * w) (pow-suc 2 t) ∙ sym (mul-assoc y (2 ^ t) 2)) r))
+-- zeros behind one of two numbers count for nothing where the other is odd: one zero, and any number of them
+gcd-double : {x y g : ℕ} → Odd x → IsGcd x y g → IsGcd x (y * 2) g
+gcd-double {x} {y} {g} o p =
+    record { left = p .left; right = dvd-mul-right-of-dvd g (p .right) 2; greatest = λ d l r. p .greatest d l (odd-half d x y o l r) }
 
--- zeros behind one of two numbers count for nothing where the other is odd
 gcd-zeros : (t : ℕ) {x y g : ℕ} → Odd x → IsGcd x y g → IsGcd x (y * 2 ^ t) g
-gcd-zeros t {x} {y} {g} o p =
-    record {
-      left = p .left;
-      right = dvd-mul-right-of-dvd g (p .right) (2 ^ t);
-      greatest = λ d l r. p .greatest d l (odd-dvd d x y t o l r);
-    }
+gcd-zeros zero {y = y} o p = rw (mul-one y) p
+gcd-zeros (suc t) {y = y} o p = rw (pow-suc, ← mul-assoc y (2 ^ t) 2) (gcd-double o (gcd-zeros t o p))
 
 -- the difference in the place of the greater
 gcd-difference : {x y g : ℕ} → y ≤ x → IsGcd (x - y) y g → IsGcd x y g

@@ -66,6 +66,7 @@ in-order c =
     (λ (t, e, f). (omega (arith, c .before .loop-test .taken, t .left, e, f), omega (arith, e, f), rw (e, f) p))
     (c .if4 .came)
 
+-- the zeros that their difference ends in
 difference : (c : lts.After-row-known reads.Pre reads.Post Inv-loop μ-loop)
     → let d = c .before .if4 .x - c .before .if4 .y in EndsIn 64 d (trailingZeros 64 d)
 difference c =
