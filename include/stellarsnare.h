@@ -37,7 +37,7 @@ extern "C" {
 #define STELLARSNARE_WORDS 6120
 
 /* the one length of the buffer into which a plan is printed, in bytes: any other is refused with 15 */
-#define STELLARSNARE_PRINTED 18280
+#define STELLARSNARE_PRINTED 20352
 
 /* Plans the table of a text into the words. Refusals: 15, then 1 to 10. */
 bool stellarsnare_plan(const uint8_t *text, size_t bytes, uint64_t *words, size_t count, uint64_t refusal[5]);

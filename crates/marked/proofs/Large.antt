@@ -1,7 +1,8 @@
--- What is printed of P8, whose numbers are large. Assumes nothing.
+-- What is printed where numbers are large: of P8, of P9 and at the limit. Assumes nothing.
 use mathlib.Core.Path.{_≡_, refl, _∙_}
 use mathlib.Core.List.{List, [], _∷_, _++_, append-nil}
 use Prim.Native.Nat.{ℕ}
+use Prim.Native.String.{String}
 use lib.ListN.{getD}
 use Rattle.numbers.specs.Bits.{bit}
 use Rattle.numbers.specs.Extreme.{mostOf}
@@ -24,7 +25,7 @@ use Rattle.channel.specs.Phases.{startOf, sizeOf}
 use Rattle.schedule.specs.Model.{depthFrom, startsFrom, scheduleOf}
 use Rattle.printer.specs.Texts.{texts}
 use Rattle.printer.specs.Printed.{asFive, lineText, planText}
-use Rattle.marked.specs.Lines.{textOf}
+use Rattle.marked.specs.Lines.{textOf, slow}
 use Rattle.planning.proofs.Reckoned.{answerOf, partFor}
 use Rattle.marked.proofs.Reckoned.{planFor}
 use Rattle.marked.proofs.Claims.{tableIn}
@@ -41,29 +42,60 @@ in-one : (a b c : List ℕ) → inOne a b c ≡ (a ++ b) ++ c
 unfolding texts
 in-one a b c = simp append-nil
 
-abbrev text : List ℕ
-text = textOf ("actor,1,1,1,1,1" ∷ "actor,1,2,1,1048576,2" ∷ "channel,1,1,2,16,1" ∷ [])
+-- what is printed of the plan of these rows
+abbrev shown : List String → List ℕ
+shown rows = planText (tableIn (textOf rows)) (planFor (tableIn (textOf rows)))
+
+abbrev pub old : List String
+old = slow "actor,1,1,1,1,1" "channel,1,1,2,16,1"
+
+abbrev pub longer : List String
+longer = slow "actor,1,1,1,1,1" "channel,1,1,2,17,1"
+
+abbrev pub longest : List String
+longest = slow "actor,1,1,8,1,1" "channel,1,1,2,128 128 128 128 128 128 128 128,1"
 
 abbrev actorLine : ℕ → ℕ → ℕ → ℕ → List ℕ
 actorLine i q t s = lineText (bytes "actor") (asFive 1 i q t s)
 
-printed-lines : planText (tableIn text) (planFor (tableIn text)) ≡ inOne (actorLine 1 1 16777216 0) (actorLine 2 16 1048576 16777216) (lineText (bytes "channel") (asFive 1 1 2 32 16))
-unfolding bit sum tab lowestOr gcdFrom mostOf rowsIn tableOf padded predsFrom roundFrom orderFrom chosen giversFrom entriesFrom stays fedOf countsFrom balancesb mostFrom commonFrom shareFrom timedOf balancedOf judgeOf startOf sizeOf depthFrom startsFrom scheduleOf answerOf partFor texts
-printed-lines = refl
+abbrev channelLine : ℕ → ℕ → List ℕ
+channelLine size tokens = lineText (bytes "channel") (asFive 1 1 2 size tokens)
 
-written-lines : (actorLine 1 1 16777216 0 ++ actorLine 2 16 1048576 16777216) ++ lineText (bytes "channel") (asFive 1 1 2 32 16)
-    ≡ textOf ("actor,1,1,1,16777216,0" ∷ "actor,1,2,16,1048576,16777216" ∷ "channel,1,1,2,32,16" ∷ [])
+reckoned : (shown old ≡ inOne (actorLine 1 1 16777216 0) (actorLine 2 16 1048576 16777216) (channelLine 32 16))
+    × (shown longer ≡ inOne (actorLine 1 1 17825792 0) (actorLine 2 17 1048576 17825792) (channelLine 34 17))
+    × (shown longest ≡ inOne (actorLine 1 8 134217728 0) (actorLine 2 1024 1048576 134217728) (channelLine 256 1024))
+unfolding bit sum tab lowestOr gcdFrom mostOf rowsIn tableOf padded predsFrom roundFrom orderFrom chosen giversFrom entriesFrom stays fedOf countsFrom balancesb mostFrom commonFrom shareFrom timedOf balancedOf judgeOf startOf sizeOf depthFrom startsFrom scheduleOf answerOf partFor texts
+reckoned = (refl, refl, refl)
+
+abbrev Written : List ℕ → List ℕ → List ℕ → List String → Type 0
+Written a b c ls = (a ++ b) ++ c ≡ textOf ls
+
+written : Written (actorLine 1 1 16777216 0) (actorLine 2 16 1048576 16777216) (channelLine 32 16) ("actor,1,1,1,16777216,0" ∷ "actor,1,2,16,1048576,16777216" ∷ "channel,1,1,2,32,16" ∷ [])
+    × Written (actorLine 1 1 17825792 0) (actorLine 2 17 1048576 17825792) (channelLine 34 17) ("actor,1,1,1,17825792,0" ∷ "actor,1,2,17,1048576,17825792" ∷ "channel,1,1,2,34,17" ∷ [])
+    × Written (actorLine 1 8 134217728 0) (actorLine 2 1024 1048576 134217728) (channelLine 256 1024) ("actor,1,1,8,134217728,0" ∷ "actor,1,2,1024,1048576,134217728" ∷ "channel,1,1,2,256,1024" ∷ [])
 unfolding lineText joined
-written-lines =
+written =
     rw (
+      numeral-is (bytes "134217728") refl,
+      numeral-is (bytes "17825792") refl,
       numeral-is (bytes "16777216") refl,
       numeral-is (bytes "1048576") refl,
+      numeral-is (bytes "1024") refl,
+      numeral-is (bytes "256") refl,
+      numeral-is (bytes "34") refl,
       numeral-is (bytes "32") refl,
+      numeral-is (bytes "17") refl,
       numeral-is (bytes "16") refl,
+      numeral-is (bytes "8") refl,
       numeral-is (bytes "2") refl,
       numeral-is (bytes "1") refl,
       numeral-is (bytes "0") refl,
-    ) refl
+    ) (refl, refl, refl)
 
-pub large : planText (tableIn text) (planFor (tableIn text)) ≡ textOf ("actor,1,1,1,16777216,0" ∷ "actor,1,2,16,1048576,16777216" ∷ "channel,1,1,2,32,16" ∷ [])
-large = printed-lines ∙ in-one _ _ _ ∙ written-lines
+pub large : (shown old ≡ textOf ("actor,1,1,1,16777216,0" ∷ "actor,1,2,16,1048576,16777216" ∷ "channel,1,1,2,32,16" ∷ []))
+    × (shown longer ≡ textOf ("actor,1,1,1,17825792,0" ∷ "actor,1,2,17,1048576,17825792" ∷ "channel,1,1,2,34,17" ∷ []))
+    × (shown longest ≡ textOf ("actor,1,1,8,134217728,0" ∷ "actor,1,2,1024,1048576,134217728" ∷ "channel,1,1,2,256,1024" ∷ []))
+large =
+    let (a, b, c) = reckoned in
+    let (d, e, f) = written in
+    (a ∙ in-one _ _ _ ∙ d, b ∙ in-one _ _ _ ∙ e, c ∙ in-one _ _ _ ∙ f)

@@ -1,4 +1,4 @@
--- The marked lines of document 01: each is a table, with what is claimed of it. A claim speaks of whatever answer the promises of the planner and of the
+-- The marked lines of document 01, as they read with 2026-02: each is a table, with what is claimed of it. A claim speaks of whatever answer the promises of the planner and of the
 -- machine allow.
 use mathlib.Core.Path.{_≡_}
 use mathlib.Core.List.{List, [], _∷_, _++_}
@@ -168,6 +168,10 @@ changes =
     ∷ "change,2,1,6,8,29"
     ∷ []
 
+-- a table of two actors by the rows of its source and of its channel: the other actor has the greatest wcet
+abbrev pub slow : String → String → List String
+slow source channel = source ∷ "actor,1,2,1,1048576,2" ∷ channel ∷ []
+
 -- the table of P11: a chain of three
 abbrev chain : List String
 chain =
@@ -199,8 +203,10 @@ lines =
     ∷ line "P5" ("actor,1,1,1,7,1" ∷ []) (prints ("actor,1,1,1,7,0" ∷ []))
     ∷ line "P6" ("actor,1,1,1,1,1" ∷ "actor,1,2,1,1,2" ∷ "channel,1,1,2,2,3" ∷ []) (prints ("actor,1,1,3,2,0" ∷ "actor,1,2,2,3,4" ∷ "channel,1,1,2,8,6" ∷ []))
     ∷ line "P7" ("actor,1,1,1,1,1" ∷ "actor,1,2,1,1,2" ∷ "channel,1,1,2,1,1" ∷ "channel,1,1,2,1,2" ∷ []) (refuses 8 0 1 0 0)
-    ∷ line "P8" ("actor,1,1,1,1,1" ∷ "actor,1,2,1,1048576,2" ∷ "channel,1,1,2,16,1" ∷ []) (prints ("actor,1,1,1,16777216,0" ∷ "actor,1,2,16,1048576,16777216" ∷ "channel,1,1,2,32,16" ∷ []))
-    ∷ line "P9" ("actor,1,1,1,1,1" ∷ "actor,1,2,1,1048576,2" ∷ "channel,1,1,2,17,1" ∷ []) (refuses 8 0 1 0 0)
+    ∷ line "P8" (slow "actor,1,1,1,1,1" "channel,1,1,2,16,1") (prints ("actor,1,1,1,16777216,0" ∷ "actor,1,2,16,1048576,16777216" ∷ "channel,1,1,2,32,16" ∷ []))
+    ∷ line "P9" (slow "actor,1,1,1,1,1" "channel,1,1,2,17,1") (prints ("actor,1,1,1,17825792,0" ∷ "actor,1,2,17,1048576,17825792" ∷ "channel,1,1,2,34,17" ∷ []))
+    ∷ line "2026-02, at the limit" (slow "actor,1,1,8,1,1" "channel,1,1,2,128 128 128 128 128 128 128 128,1") (prints ("actor,1,1,8,134217728,0" ∷ "actor,1,2,1024,1048576,134217728" ∷ "channel,1,1,2,256,1024" ∷ []))
+    ∷ line "2026-02, above it" (slow "actor,1,1,8,1,1" "channel,1,1,2,129 128 128 128 128 128 128 128,1") (refuses 8 0 1 0 0)
     ∷ line "P10" ("actor,1,1,1,1,1" ∷ "actor,1,2,1,1,1" ∷ "channel,1,1,2,1,1" ∷ []) (refuses 9 0 1 0 1)
     ∷ line "P11" chain (refuses 10 0 1 2 0)
     ∷ line "P11, its starts" chain (starts 1 (0 ∷ 4 ∷ 2 ∷ []))

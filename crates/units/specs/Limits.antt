@@ -1,4 +1,4 @@
--- The limits of document 01, with their units.
+-- The limits of document 01, with their units; that of an iteration is as 2026-02 has it.
 use Prim.Native.Nat.{ℕ, _^_}
 use Rattle.numbers.specs.declared.fraction.Fraction.{Fraction}
 use Rattle.units.specs.declared.Tick.{Tick}
@@ -39,7 +39,7 @@ MOST-RATE = token 255
 
 -- the longest iteration
 abbrev pub ITERATION-LIMIT : Tick
-ITERATION-LIMIT = tick 16777216
+ITERATION-LIMIT = tick 1073741824
 
 -- the last tick at which a request is answered
 abbrev pub CLOCK-LIMIT : Tick

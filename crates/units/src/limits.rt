@@ -23,7 +23,7 @@ pub const MOST_WCET: Tick = Tick(1048576);
 
 pub const MOST_RATE: Token = Token(255);
 
-pub const ITERATION_LIMIT: Tick = Tick(16777216);
+pub const ITERATION_LIMIT: Tick = Tick(1073741824);
 
 pub const CLOCK_LIMIT: Tick = Tick(4611686018427387904);
 
