@@ -39,9 +39,9 @@ pub struct Coverage {
     pub full_channels: u64,
     /// All 8 modes.
     pub full_modes: u64,
-    /// An iteration above 2^23 ticks.
+    /// An iteration above 2^24 ticks.
     pub long: u64,
-    /// An iteration of 2^24 ticks, the longest.
+    /// An iteration of 2^30 ticks, the longest.
     pub longest: u64,
     /// A change with an overlap.
     pub overlaps: u64,
@@ -57,7 +57,7 @@ impl Coverage {
         self.full_actors += u64::from(modes().any(|m| m[0] == u64::from(u16::MAX)));
         self.full_channels += u64::from(modes().any(|m| m[1] == CHANNELS as u64));
         self.full_modes += u64::from(modes().all(|m| m[0] != 0));
-        self.long += u64::from(modes().any(|m| m[2] > ITERATION_LIMIT / 2));
+        self.long += u64::from(modes().any(|m| m[2] > 1 << 24));
         self.longest += u64::from(modes().any(|m| m[2] == ITERATION_LIMIT));
         self.overlaps += u64::from(changes().any(|c| c[0] > 0));
         self.offsets += u64::from(changes().any(|c| c[1] > c[0]));
@@ -179,6 +179,16 @@ impl<A: Planner, B: Planner> Differ<A, B> {
         } else {
             self.kept[random.index(KEPT)] = kept;
         }
+    }
+
+    /// How many plans are kept for requests, and how many of them have an iteration above 2^24
+    /// ticks.
+    pub fn kept(&self) -> (usize, usize) {
+        let is_long = |kept: &&Kept| {
+            let mut modes = kept.words[..CHANGES].chunks_exact(MODE);
+            modes.any(|mode| mode[2] > 1 << 24)
+        };
+        (self.kept.len(), self.kept.iter().filter(is_long).count())
     }
 
     /// Prints words with both, into buffers with the same random bytes.

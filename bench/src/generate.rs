@@ -21,7 +21,7 @@ pub enum Kind {
     Middle,
     /// Up to eight modes of up to 16 actors, 32 channels and 8 phases.
     Large,
-    /// Iterations around the limit of 16,777,216 ticks.
+    /// Iterations up to the limit of 1,073,741,824 ticks and a little above it.
     Limit,
     /// Rates that multiply along the way, so that counts grow towards the limit.
     Steep,
@@ -90,8 +90,8 @@ fn bounds(kind: Kind) -> Bounds {
         Kind::Small => (3, 6, 4, &[1, 2, 3, 4], &[1, 2, 4, 6, 12], 10),
         Kind::Middle => (5, 10, 10, &[1, 2, 3, 4, 6], &[1, 4, 6, 12, 60], 40),
         Kind::Large => (8, 16, 32, &[1, 2, 4, 5, 6, 7, 8, 8], &[1, 8, 12, 24], 60),
-        Kind::Limit => (3, 16, 8, &[1, 2, 4, 8], &[4, 16, 48, 64, 96], 1),
-        Kind::Steep => (2, 12, 3, &[1, 1, 2, 3], &[1 << 12, 1 << 16, 1 << 20], 1),
+        Kind::Limit => (3, 16, 8, &[1, 2, 4, 8], &[64, 768, 1024, 1024, 4096], 1),
+        Kind::Steep => (2, 12, 3, &[1, 1, 2, 3], &[1 << 12, 1 << 20, 1 << 28], 64),
     };
     Bounds {
         modes,
@@ -157,34 +157,62 @@ pub fn largest(random: &mut Random) -> Table {
     table
 }
 
-/// A table of 8 modes with 16 actors, 32 channels and iterations of 16 ticks, mostly accepted. The
-/// actor that has a processor to itself fires 16 times, the others up to 4 times.
+/// A table of 8 modes with 16 actors, 32 channels and iterations of 16 ticks, mostly accepted.
 pub fn sixteen(random: &mut Random) -> Table {
     let (processors, alone) = one_alone(random);
     let mut table = Table::default();
     for mode in &mut table.modes {
-        let actors = choose_actors(random, ACTORS, alone);
-        let mut cycles = [0; ACTORS];
-        for &place in &actors {
-            let firings = match alone == Some(place) {
-                true => 16,
-                false => *random.pick(&[1, 2, 4]),
-            };
-            let phases = *random.pick(&[1, 2, 4]).min(&firings);
-            cycles[place] = u64::from(firings / phases);
-            mode.actors[place] = Actor {
-                phases,
-                processor: processors[place],
-                wcet: 1,
-            };
+        let mut actors = choose_actors(random, ACTORS, alone);
+        if let Some(at) = actors[..2].iter().position(|&a| alone == Some(a)) {
+            actors.swap(at, 2);
         }
-        mode.active = u16::MAX;
-        join(random, mode, &actors, &cycles);
+        let cycles = fire_sixteen(random, mode, &actors, alone);
+        for (actor, processor) in mode.actors.iter_mut().zip(processors) {
+            actor.processor = processor;
+        }
+        mode.slots[0] = Channel {
+            from: actors[0] as u8,
+            to: actors[1] as u8,
+            production: spread(random, 1, 1),
+            consumption: spread(random, 1, mode.actors[actors[1]].phases),
+        };
+        mode.count = 1;
+        join(random, mode, &actors[1..], &cycles);
         while mode.channels().len() < CHANNELS {
-            add_somewhere(random, mode, &actors, &cycles);
+            add_somewhere(random, mode, &actors[1..], &cycles);
         }
     }
     table
+}
+
+/// Actors of wcet 1, and their cycle counts: the first fires once and so does the cycle of the
+/// second, the one that has a processor to itself fires 16 times, and the others up to 4 times.
+fn fire_sixteen(
+    random: &mut Random,
+    mode: &mut Mode,
+    actors: &[usize],
+    alone: Option<usize>,
+) -> [u64; ACTORS] {
+    let mut cycles = [0; ACTORS];
+    for (at, &place) in actors.iter().enumerate() {
+        let firings = match at {
+            0 => 1,
+            _ if alone == Some(place) => 16,
+            _ => *random.pick(&[1, 2, 4]),
+        };
+        let phases = match at {
+            1 => firings,
+            _ => *random.pick(&[1, 2, 4]).min(&firings),
+        };
+        cycles[place] = u64::from(firings / phases);
+        mode.active |= 1 << place;
+        mode.actors[place] = Actor {
+            phases,
+            processor: 0,
+            wcet: 1,
+        };
+    }
+    cycles
 }
 
 /// Processors of all 16 actors, and an actor that has one to itself if there is such.
@@ -246,7 +274,7 @@ fn choose_actors(random: &mut Random, size: usize, alone: Option<usize>) -> Vec<
     actors
 }
 
-/// Cycle counts of the actors: divisors of one number, or a steep way up and down.
+/// Cycle counts of the actors: divisors of one number, or a steep way up to it and down.
 fn choose_counts(
     random: &mut Random,
     kind: Kind,
@@ -255,40 +283,67 @@ fn choose_counts(
 ) -> [u64; ACTORS] {
     let mut cycles = [0; ACTORS];
     let common = *random.pick(bounds.counts);
+    let (down, up) = match kind {
+        Kind::Limit => (2, [16, 32, 64, 128]),
+        _ => (16, [2, 3, 16, 200]),
+    };
     let mut height = 1;
     for &place in actors {
         cycles[place] = match kind {
-            Kind::Steep => height,
+            Kind::Limit | Kind::Steep => height,
             _ => gcd(random.from_to(1, common) * random.from_to(1, 4), common),
         };
         height = match random.below(4) {
-            0 => (height / 16).max(1),
+            0 => (height / down).max(1),
             1 => height,
-            _ => (height * *random.pick(&[2, 3, 16, 200])).min(common),
+            _ => (height * *random.pick(&up)).min(common),
         };
     }
     cycles
 }
 
-/// Channels such that the first actor alone has nothing incoming, the last nothing outgoing.
+/// Channels such that the first actor alone has nothing incoming, the last nothing outgoing. Where
+/// no rates lead as far as was drawn, a channel leads from one actor to the next.
 fn join(random: &mut Random, mode: &mut Mode, actors: &[usize], cycles: &[u64; ACTORS]) {
     let last = actors.len() - 1;
     let mut feeds = [false; ACTORS];
     for to in 1..=last {
         let near = to.saturating_sub(3);
-        let from = random.from_to(near as u64, to as u64 - 1) as usize;
+        let drawn = random.from_to(near as u64, to as u64 - 1) as usize;
+        let from = match most_times(mode, actors[drawn], actors[to], cycles) {
+            0 => to - 1,
+            _ => drawn,
+        };
         feeds[from] = true;
         add_channel(random, mode, actors[from], actors[to], cycles);
     }
     for from in 0..last {
         if !feeds[from] {
-            let to = random.from_to(from as u64 + 1, last as u64) as usize;
+            let drawn = random.from_to(from as u64 + 1, last as u64) as usize;
+            let to = match most_times(mode, actors[from], actors[drawn], cycles) {
+                0 => from + 1,
+                _ => drawn,
+            };
             add_channel(random, mode, actors[from], actors[to], cycles);
         }
     }
 }
 
-/// Adds a channel with rates that the cycle counts balance, if there are any and there is room.
+/// The least tokens of a cycle at both ends of a channel that the cycle counts balance.
+fn least_tokens(from: usize, to: usize, cycles: &[u64; ACTORS]) -> (u64, u64) {
+    let common = gcd(cycles[from], cycles[to]);
+    (cycles[to] / common, cycles[from] / common)
+}
+
+/// How many times these the rates of the two actors can make and take; 0 where not even once.
+fn most_times(mode: &Mode, from: usize, to: usize, cycles: &[u64; ACTORS]) -> u64 {
+    let (made, taken) = least_tokens(from, to, cycles);
+    let most_made = RATE_LIMIT * u64::from(mode.actors[from].phases) / made;
+    let most_taken = RATE_LIMIT * u64::from(mode.actors[to].phases) / taken;
+    most_made.min(most_taken)
+}
+
+/// Adds a channel if there is room, with rates that the cycle counts balance where there are any.
 fn add_channel(
     random: &mut Random,
     mode: &mut Mode,
@@ -300,11 +355,8 @@ fn add_channel(
     if next == CHANNELS {
         return;
     }
-    let common = gcd(cycles[from], cycles[to]);
-    let (made, taken) = (cycles[to] / common, cycles[from] / common);
-    let most_made = RATE_LIMIT * u64::from(mode.actors[from].phases) / made;
-    let most_taken = RATE_LIMIT * u64::from(mode.actors[to].phases) / taken;
-    let most = most_made.min(most_taken).max(1);
+    let (made, taken) = least_tokens(from, to, cycles);
+    let most = most_times(mode, from, to, cycles).max(1);
     let times = match random.below(8) {
         0 => random.from_to(1, most),
         _ => random.from_to(1, most.min(5)),
@@ -336,12 +388,14 @@ fn spread(random: &mut Random, tokens: u64, phases: u8) -> [u8; PHASES] {
     rates
 }
 
-/// Adds a channel from some actor to a later one.
+/// Adds a channel from some actor to a later one, if there are rates that balance it.
 fn add_somewhere(random: &mut Random, mode: &mut Mode, actors: &[usize], cycles: &[u64; ACTORS]) {
     if actors.len() > 1 {
         let to = random.from_to(1, actors.len() as u64 - 1) as usize;
         let from = random.index(to);
-        add_channel(random, mode, actors[from], actors[to], cycles);
+        if most_times(mode, actors[from], actors[to], cycles) > 0 {
+            add_channel(random, mode, actors[from], actors[to], cycles);
+        }
     }
 }
 
@@ -362,7 +416,8 @@ fn set_wcets(
         (common / gcd(common, count) * count).min(ITERATION_LIMIT)
     });
     let rounds = match kind {
-        Kind::Limit => (ITERATION_LIMIT / common).saturating_sub(random.below(2)) + random.below(2),
+        Kind::Limit if random.one_in(8) => ITERATION_LIMIT / common + 1,
+        Kind::Limit => (ITERATION_LIMIT / common).saturating_sub(random.below(2)),
         _ => random.from_to(1, bounds.rounds),
     };
     let length = common * rounds.max(1)

@@ -14,7 +14,7 @@ pub fn run<A: Planner, B: Planner>(
 }
 
 /// The counts of all answers.
-pub fn counts<A, B>(differ: &Differ<A, B>) -> String {
+pub fn counts<A: Planner, B: Planner>(differ: &Differ<A, B>) -> String {
     let lists = [
         ("tables", &differ.tables),
         ("prints", &differ.prints),
@@ -23,6 +23,8 @@ pub fn counts<A, B>(differ: &Differ<A, B>) -> String {
     ];
     let mut lines: String = lines(&lists);
     lines += &format!("worst delays reached: {}\n", differ.reached);
+    let (kept, long) = differ.kept();
+    lines += &format!("plans of the requests: {kept}, of these above 2^24 ticks: {long}\n");
     lines += &format!("of the accepted tables: {:?}\n", differ.coverage);
     lines
 }

@@ -56,12 +56,14 @@ pub fn accepted(count: usize) -> Vec<Vec<u8>> {
     texts
 }
 
-/// One graph of 8 modes twice: with iterations of 2^4 ticks, and with all wcets 2^20 times as long,
-/// so that its iterations have 2^24.
+/// One graph of 8 modes twice: with iterations of 2^4 ticks; and with 64 tokens of the source where
+/// there was one and all wcets 2^20 times as long, so that the others fire 64 times as often and
+/// its iterations have 2^30.
 pub fn short_and_long() -> (Vec<u8>, Vec<u8>) {
     let short = first_accepted(sixteen);
     let mut long = short.clone();
     for mode in &mut long.modes {
+        mode.slots[0].production[0] = 64;
         for actor in &mut mode.actors {
             actor.wcet <<= 20;
         }

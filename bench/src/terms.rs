@@ -17,7 +17,7 @@ pub const WCET_LIMIT: u64 = 1_048_576;
 /// Greatest rate of a phase.
 pub const RATE_LIMIT: u64 = 255;
 /// Greatest length of an iteration in ticks.
-pub const ITERATION_LIMIT: u64 = 16_777_216;
+pub const ITERATION_LIMIT: u64 = 1_073_741_824;
 /// Latest clock of a request.
 pub const CLOCK_LIMIT: u64 = 1 << 62;
 

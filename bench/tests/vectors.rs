@@ -101,7 +101,7 @@ fn every_call_of_the_vectors_prints_what_it_should() {
     let expected = fs::read(crates("vectors/stdout")).expect("what the vectors print");
     let calls = calls();
     let tables = calls.iter().filter(|call| call.asked.is_none()).count();
-    assert_eq!((tables, calls.len() - tables), (112, 28));
+    assert_eq!((tables, calls.len() - tables), (147, 53));
     let mut all = Vec::new();
     for call in &calls {
         let text = fs::read(crates("vectors/data").join(&call.name)).expect(&call.name);

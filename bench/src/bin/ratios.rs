@@ -38,7 +38,7 @@ mod measured {
         }
         let many = samples::accepted(1000);
         planning("1000 random tables", &many.iter().collect::<Vec<_>>());
-        println!("planning, iterations of 2^24 ticks against 2^4, the same graph");
+        println!("planning, iterations of 2^30 ticks against 2^4, the same graph but for one rate a mode");
         iterations();
         println!("one request with its check of the plan, product");
         for (name, text) in &named {

@@ -138,7 +138,7 @@ fn closed_forms_agree_with_firings_at_any_length() {
             if part.pace.firings.iter().sum::<u64>() <= firings::MOST {
                 compare_firings(&table, place, &plan);
                 modes += 1;
-                long += usize::from(part.pace.iteration > 1 << 20);
+                long += usize::from(part.pace.iteration > 1 << 24);
             }
             for &other in listed.iter().filter(|&&other| other != place) {
                 let least = firings::is_least(&table, &plan, place, other);
@@ -147,7 +147,7 @@ fn closed_forms_agree_with_firings_at_any_length() {
             }
         }
     }
-    println!("modes by firings: {modes}, of these above 2^20 ticks: {long}; changes: {changes}");
+    println!("modes by firings: {modes}, of these above 2^24 ticks: {long}; changes: {changes}");
     assert!(modes > 2000 && long > 200 && changes > 2000);
 }
 
