@@ -13,8 +13,9 @@ use Rattle.numbers.specs.Reckoned.{gcd-of}
 use Rattle.units.specs.declared.Tick.{Tick}
 use Rattle.units.specs.declared.Token.{Token}
 use Rattle.units.specs.Ticks.{tick, plusTicks, timesTicks}
-use Rattle.units.specs.Tokens.{token, plusTokens, timesTokens}
+use Rattle.units.specs.Tokens.{token, plusTokens}
 use Rattle.units.specs.Bounds.{MOST-TOKENS, MOST-START, MOST-SIZE}
+use Rattle.units.specs.Products.{MOST-LASTING, MOST-MOVING}
 use Rattle.units.specs.Limits.{MOST-RATE, ITERATION-LIMIT}
 use Rattle.units.specs.Firings.{firing}
 use Rattle.period.specs.Period.{beginsAt, endsAt}
@@ -68,17 +69,9 @@ pub record Early (t : Tick) (n : Token) : Type 0 where
   pub at : t .0 ≤ MOST-START .0 + ITERATION-LIMIT .0 + 1
   pub tokens : n .0 ≤ MOST-TOKENS .0 + 1
 
--- ticks that are far from the end of the clock
-abbrev pub FAR : Tick
-FAR = tick (MOST-START .0 + (2 * MOST-TOKENS .0 + 2) * ITERATION-LIMIT .0)
-
--- and tokens that are
-abbrev pub MANY : Token
-MANY = timesTokens (2 * MOST-START .0 + 3 * ITERATION-LIMIT .0 + 1) MOST-TOKENS
-
 pub record Near (m : Mark) : Type 0 where
-  pub later : m .later .0 ≤ FAR .0
-  pub sooner : m .sooner .0 ≤ FAR .0
+  pub later : m .later .0 ≤ MOST-LASTING .0
+  pub sooner : m .sooner .0 ≤ MOST-LASTING .0
 
 -- what a size is reckoned with: a pace with some cycles of the producer
 pub record Long (w : Pace) : Type 0 where
@@ -88,8 +81,8 @@ pub record Long (w : Pace) : Type 0 where
   pub ticks : w .ticks .0 ≤ MOST-SPAN .0
 
 pub record Few (h : Hold) : Type 0 where
-  pub more : h .more .0 ≤ MANY .0
-  pub fewer : h .fewer .0 ≤ MANY .0
+  pub more : h .more .0 ≤ MOST-MOVING .0
+  pub fewer : h .fewer .0 ≤ MOST-MOVING .0
 
 pub cycle-most : (e : End) → Proper e → cycleTokens e .0 ≤ MOST-TOKENS .0
 cycle-most e h = le-trans (tokens-most e h (e .phases) (le-refl (e .phases))) (mul-le-mul-right (MOST-RATE .0) (h .phases))

@@ -20,7 +20,7 @@ use Rattle.numbers.specs.Extreme.{GreatestIn, greatest-above, greatest-below}
 use Rattle.numbers.specs.Sum.{sum-most, sum-one}
 use Rattle.numbers.specs.Tab.{tab, length-tab, tab-at, is-tab, filled-more, getD-replicated}
 use Rattle.units.specs.declared.Token.{Token}
-use Rattle.units.specs.Bounds.{MOST-CYCLES}
+use Rattle.units.specs.Bounds.{MOST-CYCLES, MOST-TOKENS}
 use Rattle.units.specs.Limits.{ACTORS, PHASES, MOST-RATE}
 use Rattle.units.specs.Tokens.{timesTokens}
 use Rattle.rate.specs.declared.Meeting.{Meeting}
@@ -34,7 +34,7 @@ use Rattle.tables.specs.Memory.{headIn, actorIn, channelIn, modeIn, Stands}
 use Rattle.graph.specs.declared.balance.Counts.{Counts}
 use Rattle.graph.specs.declared.balance.Flow.{Flow}
 use Rattle.graph.specs.Balance.{cycleSum, madeOn, takenOn}
-use Rattle.graph.specs.Counts.{MOST-TOKENS, Small, Shallow, FlowIn, flowBetween, flowOf, aboveLimit, stays, scaledOf, withCount, metBy, fedOf, dueAt, countsFrom, balancesb}
+use Rattle.graph.specs.Counts.{Small, Shallow, FlowIn, flowBetween, flowOf, aboveLimit, stays, scaledOf, withCount, metBy, fedOf, dueAt, countsFrom, balancesb}
 use Rattle.graph.proofs.Lent.{actor-read, phases-few, channel-read, channel-proper}
 
 -- one step more, as a loop counts
@@ -64,7 +64,7 @@ module _ (phases : ℕ) (rates : List ℕ) (p : ProperRates phases rates) (few :
   rate-listed : (k : ℕ) → k < phases → rateOf (take phases rates) k ≡ getD rates k 0
   rate-listed k h = rate-in (take phases rates) k (omega (arith, length-take-le phases rates (omega (arith, p .long)))) ∙ getD-take phases rates k 0 h
 
-  pub cycle-most : cycleSum phases rates .0 ≤ MOST-TOKENS
+  pub cycle-most : cycleSum phases rates .0 ≤ MOST-TOKENS .0
   cycle-most =
       omega (arith, sum-most (rateOf (take phases rates)) (MOST-RATE .0) phases (λ k h. omega (arith, rate-listed k h, p .small k)))
 
@@ -75,7 +75,7 @@ module _ (phases : ℕ) (rates : List ℕ) (p : ProperRates phases rates) (few :
       omega (arith, rate-listed k h, sum-one (rateOf (take phases rates)) k phases h)
 
 -- tokens of so many cycles fit into a word
-pub tokens-fit : (n t : ℕ) → n ≤ MOST-CYCLES → t ≤ MOST-TOKENS → n * t < 2 ^ 64
+pub tokens-fit : (n t : ℕ) → n ≤ MOST-CYCLES → t ≤ MOST-TOKENS .0 → n * t < 2 ^ 64
 tokens-fit n t h g = omega (arith, mul-le-mul h g)
 
 module _ (m : Mode) (proper : ProperMode m) (k : ℕ) (h : k < m .count) where

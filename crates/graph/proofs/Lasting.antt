@@ -19,8 +19,9 @@ use Rattle.numbers.specs.Tab.{length-tab, getD-tab, tab-at, tab-same}
 use Rattle.units.specs.declared.Tick.{Tick}
 use Rattle.units.specs.declared.Firing.{Firing}
 use Rattle.units.specs.Ticks.{tick, greaterTick}
-use Rattle.units.specs.Bounds.{MOST-FIRINGS, MOST-CYCLES}
-use Rattle.units.specs.Limits.{ACTORS, PHASES, MOST-WCET, ITERATION-LIMIT}
+use Rattle.units.specs.Bounds.{MOST-FIRINGS}
+use Rattle.units.specs.Products.{MOST-COUNTED, MOST-WORK}
+use Rattle.units.specs.Limits.{ACTORS, ITERATION-LIMIT}
 use Rattle.units.specs.Firings.{firing}
 use Rattle.period.specs.declared.Firings.{Firings}
 use Rattle.period.specs.declared.Firings.the-variants.{Are, Above}
@@ -145,7 +146,7 @@ module _ (m : Mode) (proper : ProperMode m) where
     firings-few =
         record {
           long = length-tab ACTORS (firingsOf m X);
-          few = tab-at (λ q. q .0 ≤ PHASES * MOST-CYCLES) ACTORS (firingsOf m X) (firing 0) zero-le
+          few = tab-at (λ q. q .0 ≤ MOST-COUNTED .0) ACTORS (firingsOf m X) (firing 0) zero-le
               (λ i l. mul-le-mul (actors-fitting .phases i) (counted .small .small i));
         }
 
@@ -153,7 +154,7 @@ module _ (m : Mode) (proper : ProperMode m) where
     works-light =
         record {
           long = length-tab ACTORS (λ i. workOf (actorAt m i .wcet) (getD qs i (firing 0)));
-          light = tab-at (λ w. w .0 ≤ PHASES * MOST-CYCLES * MOST-WCET .0) ACTORS (λ i. workOf (actorAt m i .wcet) (getD qs i (firing 0))) (tick 0) zero-le
+          light = tab-at (λ w. w .0 ≤ MOST-WORK .0) ACTORS (λ i. workOf (actorAt m i .wcet) (getD qs i (firing 0))) (tick 0) zero-le
               (λ i l. omega (arith, mul-le-mul (firings-few .few i) (actors-fitting .wcet i)));
         }
 

@@ -22,8 +22,8 @@ use Rattle.numbers.specs.Sum.{sum}
 use Rattle.numbers.specs.Tab.{tab, getD-tab, length-tab, is-tab, tab-same}
 use Rattle.units.specs.declared.Tick.{Tick}
 use Rattle.units.specs.Ticks.{tick, plusTicks}
-use Rattle.units.specs.Bounds.{MOST-CYCLES}
-use Rattle.units.specs.Limits.{ACTORS, PHASES, MOST-WCET, PROCESSORS, LOAD-LIMIT}
+use Rattle.units.specs.Products.{MOST-WORK}
+use Rattle.units.specs.Limits.{ACTORS, PROCESSORS, LOAD-LIMIT}
 use Rattle.period.specs.Period.{periodOf, shareOf}
 use Rattle.terms.specs.Place.{numberOf}
 use Rattle.tables.specs.declared.Actor.{Actor}
@@ -53,13 +53,13 @@ over-next shares h p a r l e d =
     lowest-next (overb shares h) PROCESSORS PROCESSORS p l ∙ rw test
 
 -- the share of n actors is at most n works
-share-most : (acts : List Actor) (ws : List Tick) (p : ℕ) → Light ws → (n : ℕ) → shareFrom acts ws p n .0 ≤ n * (PHASES * MOST-CYCLES * MOST-WCET .0)
+share-most : (acts : List Actor) (ws : List Tick) (p : ℕ) → Light ws → (n : ℕ) → shareFrom acts ws p n .0 ≤ n * MOST-WORK .0
 unfolding shareFrom
 share-most acts ws p light zero = omega arith
 share-most acts ws p light (suc n) = go (eqb (getD acts n noActor .processor) p) (share-most acts ws p light n)
   where
-    go : (b : Bool) → shareFrom acts ws p n .0 ≤ n * (PHASES * MOST-CYCLES * MOST-WCET .0)
-        → cond b (plusTicks (shareFrom acts ws p n) (getD ws n (tick 0))) (shareFrom acts ws p n) .0 ≤ suc n * (PHASES * MOST-CYCLES * MOST-WCET .0)
+    go : (b : Bool) → shareFrom acts ws p n .0 ≤ n * MOST-WORK .0
+        → cond b (plusTicks (shareFrom acts ws p n) (getD ws n (tick 0))) (shareFrom acts ws p n) .0 ≤ suc n * MOST-WORK .0
     go true h = omega (arith, light .light n)
     go false h = omega arith
 

@@ -7,8 +7,8 @@ use lib.Dec.{eqb, leb, ltb}
 use lib.ListN.{length, getD, set, replicate}
 use Rattle.numbers.specs.Bits.{hasb}
 use Rattle.numbers.specs.Tab.{tab}
-use Rattle.units.specs.Bounds.{MOST-CYCLES}
-use Rattle.units.specs.Limits.{ACTORS, PHASES, MOST-RATE}
+use Rattle.units.specs.Bounds.{MOST-CYCLES, MOST-TOKENS}
+use Rattle.units.specs.Limits.{ACTORS}
 use Rattle.units.specs.Tokens.{timesTokens}
 use Rattle.rate.specs.declared.Meeting.{Meeting}
 use Rattle.rate.specs.Reckoned.{meetOf}
@@ -18,10 +18,6 @@ use Rattle.tables.specs.Shape.{Mode, actorAt, channelAt, Active}
 use Rattle.graph.specs.declared.balance.Counts.{Counts}
 use Rattle.graph.specs.declared.balance.Flow.{Flow}
 use Rattle.graph.specs.Balance.{cycleSum, madeOn, takenOn}
-
--- the most tokens of a cycle
-abbrev pub MOST-TOKENS : ℕ
-MOST-TOKENS = PHASES * MOST-RATE .0
 
 -- counts within the limit
 pub record Small (x : List ℕ) : Type 0 where
@@ -41,9 +37,9 @@ pub record Shallow (ds : List ℕ) : Type 0 where
 -- a flow between actors that take
 pub record FlowIn (f : Flow) : Type 0 where
   pub from : f .from < ACTORS
-  pub made : f .made .0 ≤ MOST-TOKENS
+  pub made : f .made .0 ≤ MOST-TOKENS .0
   pub some : 0 < f .taken .0
-  pub taken : f .taken .0 ≤ MOST-TOKENS
+  pub taken : f .taken .0 ≤ MOST-TOKENS .0
 
 abbrev pub flowBetween : Channel → Actor → Actor → Flow
 flowBetween c a b = record { from = c .from; made = cycleSum (a .phases) (c .production); taken = cycleSum (b .phases) (c .consumption) }

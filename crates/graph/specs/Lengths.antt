@@ -2,7 +2,7 @@
 use mathlib.Core.Path.{_≡_}
 use mathlib.Core.Bool.{cond, not}
 use mathlib.Core.List.{List}
-use Prim.Native.Nat.{ℕ, zero, suc, _*_, _≤_, _<_}
+use Prim.Native.Nat.{ℕ, zero, suc, _≤_, _<_}
 use lib.Dec.{eqb}
 use lib.ListN.{length, getD}
 use Rattle.numbers.specs.Bits.{Has, hasb}
@@ -12,7 +12,8 @@ use Rattle.numbers.specs.Fraction.{atMostb}
 use Rattle.units.specs.declared.Tick.{Tick}
 use Rattle.units.specs.declared.Firing.{Firing}
 use Rattle.units.specs.Ticks.{tick, greaterTick, plusTicks}
-use Rattle.units.specs.Bounds.{MOST-FIRINGS, MOST-CYCLES}
+use Rattle.units.specs.Bounds.{MOST-FIRINGS}
+use Rattle.units.specs.Products.{MOST-COUNTED, MOST-WORK}
 use Rattle.units.specs.Limits.{ACTORS, PHASES, MOST-WCET, PROCESSORS, ITERATION-LIMIT, LOAD-LIMIT}
 use Rattle.units.specs.Firings.{firing}
 use Rattle.period.specs.declared.Firings.{Firings}
@@ -36,12 +37,12 @@ pub record Fitting (acts : List Actor) : Type 0 where
 -- firings of cycle counts within the limit
 pub record Few (qs : List Firing) : Type 0 where
   pub long : length qs ≡ ACTORS
-  pub few : (i : ℕ) → getD qs i (firing 0) .0 ≤ PHASES * MOST-CYCLES
+  pub few : (i : ℕ) → getD qs i (firing 0) .0 ≤ MOST-COUNTED .0
 
 -- and works of such firings
 pub record Light (ws : List Tick) : Type 0 where
   pub long : length ws ≡ ACTORS
-  pub light : (i : ℕ) → getD ws i (tick 0) .0 ≤ PHASES * MOST-CYCLES * MOST-WCET .0
+  pub light : (i : ℕ) → getD ws i (tick 0) .0 ≤ MOST-WORK .0
 
 -- every active actor fires
 pub record Fires (qs : List Firing) (active : ℕ) : Type 0 where

@@ -12,9 +12,10 @@ use units::limits::ACTORS;
 ghost use mathlib.Core.Path.{_≡_};
 ghost use Prim.Native.Nat.{_*_, _<_, _≤_};
 ghost use lib.ListN.{length};
+ghost use Rattle.units.specs.Bounds.{MOST-TOKENS};
 ghost use Rattle.units.specs.Limits.{ACTORS, PHASES};
 ghost use Rattle.tables.specs.Memory.{headIn, modeIn, Stands};
-ghost use Rattle.graph.specs.Counts.{MOST-TOKENS, Small, FlowIn, Shallow, Entered, flowBetween, entriesOf, aboveLimit, scaledOf, fedOf, countsFrom, balancesb};
+ghost use Rattle.graph.specs.Counts.{Small, FlowIn, Shallow, Entered, flowBetween, entriesOf, aboveLimit, scaledOf, fedOf, countsFrom, balancesb};
 
 // A channel by its producer and the tokens that a cycle of the one makes and a cycle of the other takes.
 pub(crate) struct Flow {
@@ -70,7 +71,7 @@ fn above() -> Counts
 
 // All counts so many times.
 fn scaled(counts: [u64; ACTORS], times: u64) -> Counts
-    requires { ⌜ Small counts × (times ≤ MOST-TOKENS) ⌝ }
+    requires { ⌜ Small counts × (times ≤ MOST-TOKENS .0) ⌝ }
     ensures { λ r. ⌜ r ≡ scaledOf counts times ⌝ }
 {
     let mut next = counts;

@@ -11,7 +11,7 @@ use Rattle.numbers.specs.Bits.{hasb, has-decides}
 use Rattle.numbers.specs.Decides.{decides-true, decides-false}
 use Rattle.numbers.specs.Sum.{sum, sum-one}
 use Rattle.numbers.specs.Tab.{length-tab, getD-tab, tab-at}
-use Rattle.units.specs.Bounds.{MOST-CYCLES}
+use Rattle.units.specs.Products.{MOST-COUNTED}
 use Rattle.units.specs.Limits.{ACTORS, PHASES}
 use Rattle.units.specs.declared.Tick.{Tick}
 use Rattle.units.specs.declared.Firing.{Firing}
@@ -125,10 +125,10 @@ module _ (m : Mode) (j : Judgement) (proper : ProperMode m) (x : ℕ → ℕ) (n
         long = ap length (n .firings) ∙ length-tab ACTORS _;
         few = λ i.
             rw (n .firings)
-            (tab-at (λ (q : Firing). q .0 ≤ PHASES * MOST-CYCLES) ACTORS _ (firing 0) (omega arith) (λ k l. go k l (hasb (m .active) k) refl) i);
+            (tab-at (λ (q : Firing). q .0 ≤ MOST-COUNTED .0) ACTORS _ (firing 0) (omega arith) (λ k l. go k l (hasb (m .active) k) refl) i);
       }
     where
-      go : (k : ℕ) → k < ACTORS → (b : Bool) → hasb (m .active) k ≡ b → cond b (firingsOf m x k) (firing 0) .0 ≤ PHASES * MOST-CYCLES
+      go : (k : ℕ) → k < ACTORS → (b : Bool) → hasb (m .active) k ≡ b → cond b (firingsOf m x k) (firing 0) .0 ≤ MOST-COUNTED .0
       go k l false e = omega arith
       go k l true e =
           let a : Active m k = (l, decides-true (has-decides (m .active) k) e) in

@@ -12,9 +12,9 @@ use units::limits::ACTORS;
 use units::limits::CHANNELS;
 use units::limits::PHASES;
 ghost use mathlib.Core.Path.{_≡_};
-ghost use Prim.Native.Nat.{_*_, _≤_};
+ghost use Prim.Native.Nat.{_≤_};
 ghost use lib.ListN.{length, take};
-ghost use Rattle.units.specs.Bounds.{MOST-CYCLES};
+ghost use Rattle.units.specs.Products.{MOST-COUNTED};
 ghost use Rattle.units.specs.Limits.{PHASES};
 ghost use Rattle.units.specs.Tokens.{token};
 ghost use Rattle.rate.specs.Rate.{tokensOf};
@@ -48,7 +48,7 @@ pub(crate) fn sizes_of(
 
 // What so many firings of a producer make.
 fn made(phases: usize, rates: [u8; PHASES], firings: Firing) -> Token
-    requires { ⌜ (phases ≤ PHASES) × (length rates ≡ PHASES) × (firings .0 ≤ PHASES * MOST-CYCLES) ⌝ }
+    requires { ⌜ (phases ≤ PHASES) × (length rates ≡ PHASES) × (firings .0 ≤ MOST-COUNTED .0) ⌝ }
     ensures { λ r. ⌜ r ≡ tokensOf (take phases rates) firings ⌝ }
 {
     rate::tokens(&rates[..phases], firings)

@@ -4,3 +4,4 @@ pub mod Firings
 pub mod Tokens
 pub mod Limits
 pub mod Bounds
+pub mod Products
