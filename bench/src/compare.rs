@@ -57,11 +57,17 @@ impl Coverage {
         self.full_actors += u64::from(modes().any(|m| m[0] == u64::from(u16::MAX)));
         self.full_channels += u64::from(modes().any(|m| m[1] == CHANNELS as u64));
         self.full_modes += u64::from(modes().all(|m| m[0] != 0));
-        self.long += u64::from(modes().any(|m| m[2] > 1 << 24));
+        self.long += u64::from(is_long(words));
         self.longest += u64::from(modes().any(|m| m[2] == ITERATION_LIMIT));
         self.overlaps += u64::from(changes().any(|c| c[0] > 0));
         self.offsets += u64::from(changes().any(|c| c[1] > c[0]));
     }
+}
+
+/// Whether a plan has an iteration above 2^24 ticks.
+fn is_long(words: &[u64; WORDS]) -> bool {
+    let mut modes = words[..CHANGES].chunks_exact(MODE);
+    modes.any(|mode| mode[2] > 1 << 24)
 }
 
 /// A plan that was accepted, with the text from which it came.
@@ -162,11 +168,12 @@ impl<A: Planner, B: Planner> Differ<A, B> {
         Ok(())
     }
 
-    /// Keeps a plan for requests: most that are small and have several modes, a few of the others.
+    /// Keeps a plan for requests: most that have several modes and are small or have a long
+    /// iteration, a few of the others.
     fn keep(&mut self, text: &[u8], words: [u64; WORDS]) {
         let random = &mut self.random;
         let modes = (0..MODES).filter(|mode| words[MODE * mode] != 0).count();
-        let seldom = modes == 1 || text.len() > 1200;
+        let seldom = modes == 1 || text.len() > 1200 && !is_long(&words);
         if seldom && !random.one_in(30) {
             return;
         }
@@ -181,14 +188,10 @@ impl<A: Planner, B: Planner> Differ<A, B> {
         }
     }
 
-    /// How many plans are kept for requests, and how many of them have an iteration above 2^24
-    /// ticks.
+    /// How many plans are kept for requests, and how many of them have a long iteration.
     pub fn kept(&self) -> (usize, usize) {
-        let is_long = |kept: &&Kept| {
-            let mut modes = kept.words[..CHANGES].chunks_exact(MODE);
-            modes.any(|mode| mode[2] > 1 << 24)
-        };
-        (self.kept.len(), self.kept.iter().filter(is_long).count())
+        let long = self.kept.iter().filter(|kept| is_long(&kept.words));
+        (self.kept.len(), long.count())
     }
 
     /// Prints words with both, into buffers with the same random bytes.
