@@ -3,7 +3,6 @@ use mathlib.Core.Path.{_≡_, refl, sym, ap, ap₂, _∙_}
 use mathlib.Core.Bool.{Bool, cond}
 use mathlib.Core.List.{List}
 use Prim.Native.Nat.{ℕ, _+_, _*_, _^_, _≤_, _<_}
-use native.Mathlib.Nat.{mul-le-mul}
 use native.Mathlib.Omega.{arith}
 use lib.Dec.{leb}
 use lib.ListN.{length, getD}
@@ -16,7 +15,7 @@ use Rattle.units.specs.Firings.{firing}
 use Rattle.units.specs.Ticks.{tick}
 use Rattle.units.specs.declared.Tick.{Tick}
 use Rattle.units.specs.declared.Firing.{Firing}
-use Rattle.period.specs.Period.{workOf, shareOf}
+use Rattle.period.specs.Period.{workOf, work-fits, shareOf}
 use Rattle.tables.specs.declared.Actor.{Actor}
 use Rattle.tables.specs.declared.memory.Head.{Head}
 use Rattle.tables.specs.declared.memory.Times.{Times}
@@ -50,7 +49,7 @@ startsUntil f start i = leb (tickAt (runningIn f .starts) i .0) (start .0)
 -- the work of actor k
 module _ (f : List ℕ) (k : ℕ) (l : k < ACTORS) {a : Actor} {t : Times} (ea : a ≡ actorIn f k) (et : t ≡ timesIn f k) where
   pub work-small : Fitting (runningIn f) → workOf (a .wcet) (t .firings) .0 < 2 ^ 64
-  work-small fits = rw (actor-read f k l ea, firings-read f k l et) (omega (arith, mul-le-mul (fits .few k l) (fits .wcet k l)))
+  work-small fits = rw (actor-read f k l ea, firings-read f k l et) (work-fits (fits .wcet k l) (omega (arith, fits .few k l)))
 
   module _ (p : ℕ) (start : Tick) (b : Bool) {v w : Tick} (on : a .processor ≡ p) (ev : v ≡ workOf (a .wcet) (t .firings)) (ew : w ≡ cond b v (tick 0)) where
     pub since-one : Decides (start .0 ≤ t .start .0) b → w ≡ countedOf (runningIn f .actors) (runningIn f .firings) p (startsSince f start) k

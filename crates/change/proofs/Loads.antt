@@ -3,7 +3,7 @@ use mathlib.Core.Path.{_≡_, refl, ap, ap₂, _∙_}
 use mathlib.Core.Bool.{Bool, true, false, cond, _&&_}
 use mathlib.Core.Logic.{_⊎_, inl, inr, ⊎-elim, _↔_}
 use Prim.Native.Nat.{ℕ, zero, suc, _+_, _*_, _^_, _≤_, _<_, zero-le}
-use native.Mathlib.Nat.{le-antisymm, le-refl, mul-le-mul}
+use native.Mathlib.Nat.{le-antisymm, le-refl}
 use native.Mathlib.Omega.{arith}
 use native.Mathlib.Decide.{decLe}
 use borrow.Author.Tests.{eq-eqb, ne-eqb, eqb-true}
@@ -14,12 +14,12 @@ use Rattle.numbers.specs.Fraction.{Proper, Same, sum-proper, sum-common, nothin
 use Rattle.numbers.specs.declared.fraction.Fraction.{Fraction}
 use Rattle.numbers.specs.Lowest.{FirstPasses, NonePasses, sought}
 use Rattle.numbers.specs.Sum.{sum, sum-next, sum-le, sum-most}
-use Rattle.units.specs.Bounds.{MOST-FIRINGS}
-use Rattle.units.specs.Limits.{ACTORS, MOST-WCET}
+use Rattle.units.specs.Products.{MOST-WORK}
+use Rattle.units.specs.Limits.{ACTORS}
 use Rattle.units.specs.Ticks.{tick, plusTicks}
 use Rattle.units.specs.declared.Tick.{Tick}
 use Rattle.units.specs.declared.Firing.{Firing}
-use Rattle.period.specs.Period.{workOf, shareOf}
+use Rattle.period.specs.Period.{workOf, work-most, shareOf}
 use Rattle.tables.specs.declared.Actor.{Actor}
 use Rattle.graph.specs.Load.{isOn, askedBy, askedOf}
 use Rattle.change.specs.Work.{actorOf, firingsAt, noWorks, countedOf, worksOf}
@@ -34,15 +34,15 @@ workOn r p counts k = tick (sum (λ i. countedOf (r .actors) (r .firings) p coun
 module _ (r : Running) (fits : Fitting r) where
   pub work-fits : (p : ℕ) (counts : ℕ → Bool) (k : ℕ) → k < ACTORS → {v w : Tick} → v ≡ workOn r p counts k → w ≡ countedOf (r .actors) (r .firings) p counts k → v .0 + w .0 < 2 ^ 64
   work-fits p counts k l e f =
-      rw (e, f) (omega (arith, sum-most (λ i. countedOf (r .actors) (r .firings) p counts i .0) (MOST-FIRINGS .0 * MOST-WCET .0) k (λ i h. most i (omega arith)), most k l))
+      rw (e, f) (omega (arith, sum-most (λ i. countedOf (r .actors) (r .firings) p counts i .0) (MOST-WORK .0) k (λ i h. most i (omega arith)), most k l))
     where
-      go : (x : Bool) (w : Tick) → w .0 ≤ MOST-FIRINGS .0 * MOST-WCET .0 → cond x w (tick 0) .0 ≤ MOST-FIRINGS .0 * MOST-WCET .0
+      go : (x : Bool) (w : Tick) → w .0 ≤ MOST-WORK .0 → cond x w (tick 0) .0 ≤ MOST-WORK .0
       go true w h = h
       go false w h = zero-le
 
-      most : (i : ℕ) → i < ACTORS → countedOf (r .actors) (r .firings) p counts i .0 ≤ MOST-FIRINGS .0 * MOST-WCET .0
+      most : (i : ℕ) → i < ACTORS → countedOf (r .actors) (r .firings) p counts i .0 ≤ MOST-WORK .0
       most i h =
-          go (eqb (actorOf (r .actors) i .processor) p && counts i) (workOf (actorOf (r .actors) i .wcet) (firingsAt (r .firings) i)) (omega (arith, mul-le-mul (fits .few i h) (fits .wcet i h)))
+          go (eqb (actorOf (r .actors) i .processor) p && counts i) (workOf (actorOf (r .actors) i .wcet) (firingsAt (r .firings) i)) (work-most (fits .wcet i h) (omega (arith, fits .few i h)))
 
   pub works-nowhere : (p : ℕ) (start : Tick) → p ≡ 0 → noWorks ≡ worksOf (r .actors) (r .firings) (r .starts) p start
   works-nowhere p start e = rw e (ap₂ (λ (s u : ℕ). record { since = tick s; until = tick u }) (none _) (none _))

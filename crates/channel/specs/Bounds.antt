@@ -69,6 +69,7 @@ pub record Early (t : Tick) (n : Token) : Type 0 where
   pub at : t .0 ≤ MOST-START .0 + ITERATION-LIMIT .0 + 1
   pub tokens : n .0 ≤ MOST-TOKENS .0 + 1
 
+-- a mark whose ticks are no more than tokens last
 pub record Near (m : Mark) : Type 0 where
   pub later : m .later .0 ≤ MOST-LASTING .0
   pub sooner : m .sooner .0 ≤ MOST-LASTING .0
@@ -80,6 +81,7 @@ pub record Long (w : Pace) : Type 0 where
   pub tokens : w .tokens .0 ≤ MOST-ADDED * MOST-TOKENS .0
   pub ticks : w .ticks .0 ≤ MOST-SPAN .0
 
+-- and a hold whose tokens are no more than are moved
 pub record Few (h : Hold) : Type 0 where
   pub more : h .more .0 ≤ MOST-MOVING .0
   pub fewer : h .fewer .0 ≤ MOST-MOVING .0

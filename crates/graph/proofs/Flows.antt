@@ -4,7 +4,7 @@ use mathlib.Core.Bool.{Bool, true, false, cond, _&&_, and-false}
 use mathlib.Core.List.{List}
 use mathlib.Core.Logic.{⊎-elim}
 use Prim.Native.Nat.{ℕ, zero, suc, _+_, _*_, _/_, _%_, _^_, _≤_, _<_, zero-le}
-use native.Mathlib.Nat.{not-suc-le-zero, le-of-suc-le-suc, eq-or-lt-of-le, lt-suc-self, lt-of-not-le, le-refl, mul-le-mul}
+use native.Mathlib.Nat.{not-suc-le-zero, le-of-suc-le-suc, eq-or-lt-of-le, lt-suc-self, lt-of-not-le, le-refl, le-trans, mul-le-mul}
 use native.Mathlib.Numerals.{add-one}
 use native.Mathlib.Omega.{arith}
 use native.Mathlib.Decide.{decLt, ℕ-discrete}
@@ -21,6 +21,7 @@ use Rattle.numbers.specs.Sum.{sum-most, sum-one}
 use Rattle.numbers.specs.Tab.{tab, length-tab, tab-at, is-tab, filled-more, getD-replicated}
 use Rattle.units.specs.declared.Token.{Token}
 use Rattle.units.specs.Bounds.{MOST-CYCLES, MOST-TOKENS}
+use Rattle.units.specs.Products.{products, product-fits}
 use Rattle.units.specs.Limits.{ACTORS, PHASES, MOST-RATE}
 use Rattle.units.specs.Tokens.{timesTokens}
 use Rattle.rate.specs.declared.Meeting.{Meeting}
@@ -74,9 +75,9 @@ module _ (phases : ℕ) (rates : List ℕ) (p : ProperRates phases rates) (few :
       let h : k < phases = lt-of-not-le (λ (b : phases ≤ k). omega (arith, p .behind k b)) in
       omega (arith, rate-listed k h, sum-one (rateOf (take phases rates)) k phases h)
 
--- tokens of so many cycles fit into a word
-pub tokens-fit : (n t : ℕ) → n ≤ MOST-CYCLES → t ≤ MOST-TOKENS .0 → n * t < 2 ^ 64
-tokens-fit n t h g = omega (arith, mul-le-mul h g)
+-- tokens of so many cycles, or a count so many times, fit into a word
+pub made-fits : (n t : ℕ) → n ≤ MOST-CYCLES → t ≤ MOST-TOKENS .0 → n * t < 2 ^ 64
+made-fits n t h g = product-fits (le-trans (mul-le-mul h g) (products .made))
 
 module _ (m : Mode) (proper : ProperMode m) (k : ℕ) (h : k < m .count) where
   pub flow-in : FlowIn (flowOf m k)

@@ -27,7 +27,7 @@ use Rattle.period.specs.declared.Firings.{Firings}
 use Rattle.period.specs.declared.Firings.the-variants.{Are, Above}
 use Rattle.period.specs.declared.Length.{Length}
 use Rattle.period.specs.declared.Length.the-variants.{Is, Above as TooLong}
-use Rattle.period.specs.Period.{workOf, periodOf, CommonWithin, IterationIs, IterationWithin}
+use Rattle.period.specs.Period.{workOf, work-most, periodOf, CommonWithin, IterationIs, IterationWithin}
 use Rattle.period.specs.Reckoned.{commonOf, common-of, common-is, lengthOf as reckonedOf, iteration-of}
 use Rattle.tables.specs.declared.Actor.{Actor}
 use Rattle.tables.specs.Shape.{Mode, noActor, actorAt, Active}
@@ -155,7 +155,7 @@ module _ (m : Mode) (proper : ProperMode m) where
         record {
           long = length-tab ACTORS (λ i. workOf (actorAt m i .wcet) (getD qs i (firing 0)));
           light = tab-at (λ w. w .0 ≤ MOST-WORK .0) ACTORS (λ i. workOf (actorAt m i .wcet) (getD qs i (firing 0))) (tick 0) zero-le
-              (λ i l. omega (arith, mul-le-mul (firings-few .few i) (actors-fitting .wcet i)));
+              (λ i l. work-most (actors-fitting .wcet i) (firings-few .few i));
         }
 
     pub firings-fire : Fires qs (m .active)

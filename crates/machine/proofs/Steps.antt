@@ -12,6 +12,7 @@ use lib.Dec.{T, eqb}
 use Rattle.numbers.specs.Extreme.{Least, least-unique}
 use Rattle.numbers.specs.Quotient.{roundedOf, rounded-of}
 use Rattle.numbers.specs.Lowest.{sought, lowest-is, FirstPasses, NonePasses}
+use Rattle.units.specs.Products.{MOST-LEFT}
 use Rattle.units.specs.Limits.{MODES, CLOCK-LIMIT}
 use Rattle.units.specs.declared.Tick.{Tick}
 use Rattle.units.specs.Ticks.{tick}
@@ -80,11 +81,11 @@ rounded-up x h pos =
 
 -- the old mode is left soon
 module _ (m : Machine) (c : Course) (t : Tick) (near : Near m c t) where
-  pub times-fit : (t .0 - m .started .0 + c .iteration .0 - 1) / c .iteration .0 * c .iteration .0 ≤ t .0 - m .started .0 + c .iteration .0
-  times-fit = omega (arith, div-add-mod' (t .0 - m .started .0 + c .iteration .0 - 1) (c .iteration .0))
+  times-most : (t .0 - m .started .0 + c .iteration .0 - 1) / c .iteration .0 * c .iteration .0 ≤ t .0 - m .started .0 + c .iteration .0
+  times-most = omega (arith, div-add-mod' (t .0 - m .started .0 + c .iteration .0 - 1) (c .iteration .0))
 
-  pub left-soon : leftOf m c t .0 ≤ t .0 + c .iteration .0
-  left-soon = omega (arith, times-fit, near .started)
+  pub left-soon : leftOf m c t .0 ≤ MOST-LEFT .0
+  left-soon = omega (arith, times-most, near .started, near .clock, near .iteration)
 
 -- the first refusal that applies to a request
 module _ (p : RunPlan) (m : Run.Machine) (r : Run.Request) where

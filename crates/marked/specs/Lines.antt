@@ -1,5 +1,5 @@
--- The marked lines of document 01, as they read with 2026-02: each is a table, with what is claimed of it. A claim speaks of whatever answer the promises of the planner and of the
--- machine allow.
+-- The marked lines of document 01, as they read with 2026-02: each is a table, with what is claimed of it. A claim speaks of whatever answer the promises
+-- of the planner and of the machine allow.
 use mathlib.Core.Path.{_≡_}
 use mathlib.Core.List.{List, [], _∷_, _++_}
 use Prim.Native.Nat.{ℕ, _-_}

@@ -1,7 +1,7 @@
 -- The period rule: firing n of an actor begins n periods after its start, and has the ticks up to the next beginning.
 use mathlib.Core.Path.{_≡_, refl, sym, ap, _∙_}
-use Prim.Native.Nat.{ℕ, suc, _+_, _-_, _*_, _/_, _≤_, _<_}
-use native.Mathlib.Nat.{not-suc-le-zero, not-le-of-lt, le-div-iff-mul-le}
+use Prim.Native.Nat.{ℕ, suc, _+_, _-_, _*_, _/_, _^_, _≤_, _<_}
+use native.Mathlib.Nat.{le-trans, mul-le-mul, not-suc-le-zero, not-le-of-lt, le-div-iff-mul-le}
 use native.Mathlib.Omega.{arith}
 use Rattle.numbers.specs.Common.{IsLcm}
 use Rattle.numbers.specs.Extreme.{ExactlyFirst, least-unique}
@@ -12,6 +12,8 @@ use Rattle.units.specs.declared.Tick.{Tick}
 use Rattle.units.specs.declared.Firing.{Firing}
 use Rattle.units.specs.Ticks.{tick, plusTicks, timesTicks}
 use Rattle.units.specs.Firings.{firing}
+use Rattle.units.specs.Limits.{MOST-WCET}
+use Rattle.units.specs.Products.{MOST-COUNTED, MOST-WORK, products, product-fits}
 use Rattle.period.specs.declared.Firings.{Firings}
 use Rattle.period.specs.declared.Firings.the-variants.{Are, Above}
 use Rattle.period.specs.declared.Length.{Length}
@@ -62,6 +64,13 @@ periodOf h q = tick (h .0 / q .0)
 -- a ticks of b, as a fraction
 abbrev pub shareOf : Tick → Tick → Fraction
 shareOf a b = record { over = a .0; under = b .0 }
+
+-- the work of cycle counts within the limit
+pub work-most : {wcet : Tick} {q : Firing} → wcet .0 ≤ MOST-WCET .0 → q .0 ≤ MOST-COUNTED .0 → workOf wcet q .0 ≤ MOST-WORK .0
+work-most h g = mul-le-mul g h
+
+pub work-fits : {wcet : Tick} {q : Firing} → wcet .0 ≤ MOST-WCET .0 → q .0 ≤ MOST-COUNTED .0 → workOf wcet q .0 < 2 ^ 64
+work-fits h g = product-fits (le-trans (work-most h g) (products .work))
 
 -- the counts, where the start lies ahead and where it has passed
 module _ (start period by : Tick) where

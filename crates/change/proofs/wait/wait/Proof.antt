@@ -7,7 +7,8 @@ use native.Mathlib.Omega.{arith}
 use Rattle.numbers.specs.Decides.{Decides, leb-is, decides-true, decides-false}
 use Rattle.numbers.specs.Fraction.{AtMost, plus, atMostb}
 use Rattle.numbers.specs.declared.fraction.Fraction.{Fraction}
-use Rattle.units.specs.Limits.{ITERATION-LIMIT, LOAD-LIMIT}
+use Rattle.units.specs.Products.{MOST-SHARED, products, product-fits}
+use Rattle.units.specs.Limits.{LOAD-LIMIT}
 use Rattle.units.specs.Ticks.{tick}
 use Rattle.change.proofs.Offsets.{wait-most}
 use Rattle.change.proofs.wait.wait.Statement.{statement}
@@ -25,8 +26,8 @@ plus-requires c κs =
     let a = s .args .old .asked in
     let b = s .args .new .asked in
     let (p, q) = s .pre in
-    let below : a .under * b .under ≤ ITERATION-LIMIT .0 * ITERATION-LIMIT .0 = mul-le-mul (p .whole) (q .whole) in
-    (omega (arith, mul-le-mul-right (b .under) (p .part), mul-le-mul-left (a .under) (q .part)), omega arith)
+    let below : a .under * b .under ≤ MOST-SHARED = mul-le-mul (p .whole) (q .whole) in
+    (omega (arith, products .two, mul-le-mul-right (b .under) (p .part), mul-le-mul-left (a .under) (q .part)), product-fits below)
 
 at-most-requires-2 : tie.Need-at-most-requires-2
 at-most-requires-2 c κs =

@@ -1,6 +1,7 @@
 -- channel::waits::take meets its contract. Assumes nothing.
 use borrow.Author.Needs.{needs}
-use native.Mathlib.Omega.{arith}
+use native.Mathlib.Nat.{le-trans}
+use Rattle.units.specs.Products.{products, product-fits}
 use Rattle.channel.specs.Bounds.{take-near}
 use Rattle.channel.proofs.waits.take.Statement.{statement}
 use Rattle.channel.proofs.waits.take.Tie as tie
@@ -9,7 +10,7 @@ lasting-requires : tie.Need-lasting-requires
 lasting-requires c κs =
     let s = c .before .before in
     let a = s .args in
-    rw (c .plus .ensures) (s .pre .0 .some, omega (arith, take-near (a .pace) (a .begins) (a .taken) (s .pre .0) (s .pre .1) .later))
+    rw (c .plus .ensures) (s .pre .0 .some, product-fits (le-trans (take-near (a .pace) (a .begins) (a .taken) (s .pre .0) (s .pre .1) .later) (products .lasting)))
 
 returns : tie.Need-returns
 returns c = rw (c .rest .ensures, c .before .plus2 .ensures, c .before .before .lasting .ensures, c .before .before .before .plus .ensures)

@@ -16,7 +16,7 @@ use Rattle.tables.specs.Memory.{headIn, modeIn}
 use Rattle.graph.specs.declared.balance.Flow.{Flow}
 use Rattle.graph.specs.Counts.{FlowIn, flowOf}
 use Rattle.graph.proofs.Lent.{channel-place, channel-below, channel-read, channel-proper}
-use Rattle.graph.proofs.Flows.{Even, balances-decides, flow-in, flow-read, ends-few, tokens-fit}
+use Rattle.graph.proofs.Flows.{Even, balances-decides, flow-in, flow-read, ends-few, made-fits}
 use Rattle.graph.proofs.balance.balances.Statement.{statement}
 use Rattle.graph.proofs.balance.balances.Tie as tie
 
@@ -53,7 +53,7 @@ even-requires c κs =
     let t = c .before .before .before .before in
     let p = root t .pre in
     let fits = subst FlowIn (sym (flow c)) (flow-in _ (p .0 .proper) _ (place t)) in
-    (tokens-fit _ _ (p .1 .small _) (fits .made), tokens-fit _ _ (p .1 .small _) (fits .taken))
+    (made-fits _ _ (p .1 .small _) (fits .made), made-fits _ _ (p .1 .small _) (fits .taken))
 
 -- whether it is balanced
 even : (c : tie.After-even Inv-loop μ-loop)

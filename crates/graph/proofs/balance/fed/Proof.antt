@@ -10,7 +10,7 @@ use Rattle.numbers.specs.Reckoned.{gcdOf}
 use Rattle.rate.specs.declared.Meeting.{Meeting}
 use Rattle.rate.specs.Reckoned.{meetOf, meet-is}
 use Rattle.graph.specs.Counts.{withCount, metBy, fedOf}
-use Rattle.graph.proofs.Flows.{tokens-fit, fed-met, met-over, met-new}
+use Rattle.graph.proofs.Flows.{made-fits, fed-met, met-over, met-new}
 use Rattle.graph.proofs.balance.fed.Statement.{statement}
 use Rattle.graph.proofs.balance.fed.Tie as tie
 
@@ -21,7 +21,7 @@ returns c = rw (not-true (c .before .before .args .now .good) (c .if1 .taken))
 meet-requires : tie.Need-meet-requires
 meet-requires c κs =
     let p = c .before .before .before .pre in
-    (tokens-fit _ _ (p .0 .small _) (p .1 .made), p .1 .some)
+    (made-fits _ _ (p .0 .small _) (p .1 .made), p .1 .some)
 
 -- the meeting found
 met : (c : tie.After-meet)

@@ -2,11 +2,11 @@
 use borrow.Author.Needs.{needs}
 use mathlib.Core.Path.{_≡_, ap, _∙_}
 use Prim.Native.Nat.{ℕ, _-_, _*_, _≤_}
-use native.Mathlib.Nat.{le-refl, mul-le-mul}
+use native.Mathlib.Nat.{le-refl}
 use native.Mathlib.Omega.{arith}
 use lib.ListN.{getD}
 use Rattle.units.specs.Limits.{ACTORS}
-use Rattle.graph.proofs.Flows.{Scaling, scaling-none, scaling-more, scaled-all, scaled-over}
+use Rattle.graph.proofs.Flows.{made-fits, Scaling, scaling-none, scaling-more, scaled-all, scaled-over}
 use Rattle.graph.proofs.balance.scaled.Statement.{statement}
 use Rattle.graph.proofs.balance.scaled.Tie as tie
 
@@ -22,7 +22,7 @@ same : (c : tie.In-loop Inv-loop μ-loop)
 same c = let l = c .before .loop in ap (λ (n : ℕ). n * c .before .before .args .times) (l .inv .1 .ahead (l .i) (le-refl (l .i)))
 
 mul-count-2 : tie.Need-mul-count-2 Inv-loop μ-loop
-mul-count-2 c = let s = c .before .before .pre in omega (arith, same c, mul-le-mul (s .0 .small (c .before .loop .i)) (s .1))
+mul-count-2 c = let s = c .before .before .pre in omega (arith, same c, made-fits _ _ (s .0 .small (c .before .loop .i)) (s .1))
 
 returns : tie.Need-returns Inv-loop μ-loop
 returns c = c .above .ensures ∙ scaled-over _ _ (c .before .before .before .loop .i) (omega arith) (omega (arith, c .before .if1 .taken, same (c .before .before)))

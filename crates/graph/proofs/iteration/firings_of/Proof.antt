@@ -1,10 +1,11 @@
 -- graph::iteration::firings_of meets its contract. The invariant: the firings of the actors below i are set. Assumes nothing.
 use borrow.Author.Needs.{needs}
 use Prim.Native.Nat.{_-_}
-use native.Mathlib.Nat.{mul-le-mul}
+use native.Mathlib.Nat.{le-trans, mul-le-mul}
 use native.Mathlib.Omega.{arith}
 use lib.ListN.{getD}
 use Rattle.numbers.specs.Filled.{FilledBy, filled-none, filled-set, filled-all}
+use Rattle.units.specs.Products.{products, product-fits}
 use Rattle.units.specs.Limits.{ACTORS}
 use Rattle.units.specs.Firings.{firing}
 use Rattle.rate.specs.Rate.{cyclesOf}
@@ -22,7 +23,7 @@ cycles-requires : tie.Need-cycles-requires Inv-loop μ-loop
 cycles-requires c κs =
     let i = c .before .before .loop .i in
     let (fitting, small) = c .before .before .before .pre in
-    omega (arith, mul-le-mul (fitting .phases i) (small .small i))
+    product-fits (le-trans (mul-le-mul (fitting .phases i) (small .small i)) (products .counted))
 
 loop-again : tie.Need-loop-again Inv-loop μ-loop
 loop-again c =

@@ -1,14 +1,13 @@
 -- graph::iteration::works_of meets its contract. The invariant: the works of the actors below i are set. Assumes nothing.
 use borrow.Author.Needs.{needs}
 use Prim.Native.Nat.{_-_}
-use native.Mathlib.Nat.{mul-le-mul}
 use native.Mathlib.Omega.{arith}
 use lib.ListN.{getD}
 use Rattle.numbers.specs.Filled.{FilledBy, filled-none, filled-set, filled-all}
 use Rattle.units.specs.Ticks.{tick}
 use Rattle.units.specs.Limits.{ACTORS}
 use Rattle.units.specs.Firings.{firing}
-use Rattle.period.specs.Period.{workOf}
+use Rattle.period.specs.Period.{workOf, work-fits}
 use Rattle.tables.specs.Shape.{noActor}
 use Rattle.graph.proofs.iteration.works_of.Statement.{statement}
 use Rattle.graph.proofs.iteration.works_of.Tie as tie
@@ -23,7 +22,7 @@ work-requires : tie.Need-work-requires Inv-loop μ-loop
 work-requires c κs =
     let i = c .before .before .before .loop .i in
     let (fitting, few) = c .before .before .before .before .pre in
-    omega (arith, mul-le-mul (few .few i) (fitting .wcet i))
+    work-fits (fitting .wcet i) (few .few i)
 
 loop-again : tie.Need-loop-again Inv-loop μ-loop
 loop-again c =

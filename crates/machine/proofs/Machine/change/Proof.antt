@@ -3,8 +3,9 @@ use borrow.Author.Needs.{needs}
 use mathlib.Core.Path.{_≡_}
 use Prim.Native.Nat.{_+_, _-_, _/_}
 use native.Mathlib.Omega.{arith}
+use Rattle.units.specs.Products.{left-fits}
 use Rattle.machine.specs.Steps.{Near, leftOf}
-use Rattle.machine.proofs.Steps.{times-fit, left-soon}
+use Rattle.machine.proofs.Steps.{left-soon}
 use Rattle.machine.proofs.Machine.change.Statement.{statement}
 use Rattle.machine.proofs.Machine.change.Tie as tie
 
@@ -27,23 +28,23 @@ change-spec =
     (λ c κs. let n = near (c .before .before .before) in rw (c .minus .ensures) (omega (arith, n .clock, n .iteration)))
     (λ c κs. search needs)
     (λ c κs. near (c .before .before .before .before .before) .some)
-    (λ c κs. let n = near (c .before .before .before .before .before .before) in rw (times-is c) (omega (arith, times-fit _ _ _ n, n .clock, n .iteration)))
+    (λ c κs. let n = near (c .before .before .before .before .before .before) in rw (times-is c) (omega (arith, left-fits, left-soon _ _ _ n)))
     (λ c κs.
     let n = near (c .before .before .before .before .before .before .before) in
-    rw (c .times .ensures, times-is (c .before)) (omega (arith, left-soon _ _ _ n, n .clock, n .iteration)))
+    rw (c .times .ensures, times-is (c .before)) (omega (arith, left-fits, left-soon _ _ _ n)))
     (λ c κs.
     let n = near (c .before .before .before .before .before .before .before .before) in
-    rw (left-is c) (omega (arith, left-soon _ _ _ n, n .clock, n .iteration, n .offset)))
+    rw (left-is c) (omega (arith, left-fits, left-soon _ _ _ n, n .offset)))
     (λ c κs.
     let n = near (c .before .before .before .before .before .before .before .before .before) in
-    rw (c .plus3 .ensures, left-is (c .before)) (omega (arith, left-soon _ _ _ n, n .clock, n .iteration, n .offset, n .sink)))
+    rw (c .plus3 .ensures, left-is (c .before)) (omega (arith, left-fits, left-soon _ _ _ n, n .offset, n .sink)))
     (λ c κs.
     let n = near (c .before .before .before .before .before .before .before .before .before .before) in
-    rw (c .before .plus3 .ensures, left-is (c .before .before)) (omega (arith, left-soon _ _ _ n, n .clock, n .iteration, n .offset, n .new)))
+    rw (c .before .plus3 .ensures, left-is (c .before .before)) (omega (arith, left-fits, left-soon _ _ _ n, n .offset, n .new)))
     (λ c κs. search needs)
     (λ c κs.
     let n = near (c .before .before .before .before .before .before .before .before .before .before .before .before) in
-    rw (left-is (c .before .before .before .before)) (omega (arith, left-soon _ _ _ n, n .clock, n .iteration, n .old)))
+    rw (left-is (c .before .before .before .before)) (omega (arith, left-fits, left-soon _ _ _ n, n .old)))
     (λ c κs. search needs)
     (λ c.
     let s = c .before .before .before .before .before in
