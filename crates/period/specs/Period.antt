@@ -67,7 +67,7 @@ shareOf a b = record { over = a .0; under = b .0 }
 
 -- the work of cycle counts within the limit
 pub work-most : {wcet : Tick} {q : Firing} → wcet .0 ≤ MOST-WCET .0 → q .0 ≤ MOST-COUNTED .0 → workOf wcet q .0 ≤ MOST-WORK .0
-work-most h g = mul-le-mul g h
+work-most h g = omega (arith, mul-le-mul g h)
 
 pub work-fits : {wcet : Tick} {q : Firing} → wcet .0 ≤ MOST-WCET .0 → q .0 ≤ MOST-COUNTED .0 → workOf wcet q .0 < 2 ^ 64
 work-fits h g = product-fits (le-trans (work-most h g) (products .work))

@@ -1,10 +1,11 @@
 -- period::work meets its contract. Assumes nothing.
 use borrow.Author.Needs.{needs}
+use native.Mathlib.Omega.{arith}
 use Rattle.period.proofs.work.Statement.{statement}
 use Rattle.period.proofs.work.Tie as tie
 
 times-requires : tie.Need-times-requires
-times-requires c κs = rw (c .firings .ensures) (c .before .pre)
+times-requires c κs = rw (c .firings .ensures) (omega (arith, c .before .pre))
 
 returns : tie.Need-returns
 returns c = cc
