@@ -25,7 +25,7 @@ use Rattle.channel.specs.Phases.{startOf, sizeOf}
 use Rattle.schedule.specs.Model.{depthFrom, startsFrom, scheduleOf}
 use Rattle.printer.specs.Texts.{texts}
 use Rattle.printer.specs.Printed.{asFive, lineText, planText}
-use Rattle.marked.specs.Lines.{textOf, slow}
+use Rattle.marked.specs.Lines.{textOf, eight, planEight, nine, planNine, longest, planLongest}
 use Rattle.planning.proofs.Reckoned.{answerOf, partFor}
 use Rattle.marked.proofs.Reckoned.{planFor}
 use Rattle.marked.proofs.Claims.{tableIn}
@@ -48,62 +48,26 @@ actorLine i q t s = lineText (bytes "actor") (asFive 1 i q t s)
 abbrev channelLine : ℕ → ℕ → List ℕ
 channelLine size tokens = lineText (bytes "channel") (asFive 1 1 2 size tokens)
 
--- a table of two actors and a channel by its rows; what is printed of it, by the numbers of its plan; and the same as it is written
-pub record Case : Type 0 where
-  pub rows : List String
-  pub source : List ℕ
-  pub sink : List ℕ
-  pub channel : List ℕ
-  pub lines : List String
+-- what is printed of the plan of these rows
+abbrev shown : List String → List ℕ
+shown rows = planText (tableIn (textOf rows)) (planFor (tableIn (textOf rows)))
 
-abbrev pub p8 : Case
-p8 =
-    record {
-      rows = slow "actor,1,1,1,1,1" "channel,1,1,2,16,1";
-      source = actorLine 1 1 16777216 0;
-      sink = actorLine 2 16 1048576 16777216;
-      channel = channelLine 32 16;
-      lines = "actor,1,1,1,16777216,0" ∷ "actor,1,2,16,1048576,16777216" ∷ "channel,1,1,2,32,16" ∷ [];
-    }
+-- it is these three lines, by their numbers; and they are written so
+abbrev Reckoned : List String → List ℕ → List ℕ → List ℕ → Type 0
+Reckoned rows source sink channel = shown rows ≡ inOne source sink channel
 
-abbrev pub p9 : Case
-p9 =
-    record {
-      rows = slow "actor,1,1,1,1,1" "channel,1,1,2,17,1";
-      source = actorLine 1 1 17825792 0;
-      sink = actorLine 2 17 1048576 17825792;
-      channel = channelLine 34 17;
-      lines = "actor,1,1,1,17825792,0" ∷ "actor,1,2,17,1048576,17825792" ∷ "channel,1,1,2,34,17" ∷ [];
-    }
+abbrev Written : List String → List ℕ → List ℕ → List ℕ → Type 0
+Written lines source sink channel = (source ++ sink) ++ channel ≡ textOf lines
 
--- the longest iteration
-abbrev pub longest : Case
-longest =
-    record {
-      rows = slow "actor,1,1,8,1,1" "channel,1,1,2,128 128 128 128 128 128 128 128,1";
-      source = actorLine 1 8 134217728 0;
-      sink = actorLine 2 1024 1048576 134217728;
-      channel = channelLine 256 1024;
-      lines = "actor,1,1,8,134217728,0" ∷ "actor,1,2,1024,1048576,134217728" ∷ "channel,1,1,2,256,1024" ∷ [];
-    }
-
-abbrev shown : Case → List ℕ
-shown c = planText (tableIn (textOf (c .rows))) (planFor (tableIn (textOf (c .rows))))
-
-abbrev Reckoned : Case → Type 0
-Reckoned c = shown c ≡ inOne (c .source) (c .sink) (c .channel)
-
-abbrev Written : Case → Type 0
-Written c = (c .source ++ c .sink) ++ c .channel ≡ textOf (c .lines)
-
-abbrev pub Printed : Case → Type 0
-Printed c = shown c ≡ textOf (c .lines)
-
-reckoned : Reckoned p8 × Reckoned p9 × Reckoned longest
+reckoned : Reckoned eight (actorLine 1 1 16777216 0) (actorLine 2 16 1048576 16777216) (channelLine 32 16)
+    × Reckoned nine (actorLine 1 1 17825792 0) (actorLine 2 17 1048576 17825792) (channelLine 34 17)
+    × Reckoned longest (actorLine 1 8 134217728 0) (actorLine 2 1024 1048576 134217728) (channelLine 256 1024)
 unfolding bit sum tab lowestOr gcdFrom mostOf rowsIn tableOf padded predsFrom roundFrom orderFrom chosen giversFrom entriesFrom stays fedOf countsFrom balancesb mostFrom commonFrom shareFrom timedOf balancedOf judgeOf startOf sizeOf depthFrom startsFrom scheduleOf answerOf partFor texts
 reckoned = (refl, refl, refl)
 
-written : Written p8 × Written p9 × Written longest
+written : Written planEight (actorLine 1 1 16777216 0) (actorLine 2 16 1048576 16777216) (channelLine 32 16)
+    × Written planNine (actorLine 1 1 17825792 0) (actorLine 2 17 1048576 17825792) (channelLine 34 17)
+    × Written planLongest (actorLine 1 8 134217728 0) (actorLine 2 1024 1048576 134217728) (channelLine 256 1024)
 unfolding lineText joined
 written =
     rw (
@@ -123,7 +87,7 @@ written =
       numeral-is (bytes "0") refl,
     ) (refl, refl, refl)
 
-pub large : Printed p8 × Printed p9 × Printed longest
+pub large : (shown eight ≡ textOf planEight) × (shown nine ≡ textOf planNine) × (shown longest ≡ textOf planLongest)
 large =
     let (a, b, c) = reckoned in
     let (d, e, f) = written in

@@ -169,8 +169,27 @@ changes =
     ∷ []
 
 -- a table of two actors by the rows of its source and of its channel: the other actor has the greatest wcet
-abbrev pub slow : String → String → List String
+abbrev slow : String → String → List String
 slow source channel = source ∷ "actor,1,2,1,1048576,2" ∷ channel ∷ []
+
+-- the tables of P8, of P9 and of the longest iteration, and the lines that are printed of each
+abbrev pub eight : List String
+eight = slow "actor,1,1,1,1,1" "channel,1,1,2,16,1"
+
+abbrev pub planEight : List String
+planEight = "actor,1,1,1,16777216,0" ∷ "actor,1,2,16,1048576,16777216" ∷ "channel,1,1,2,32,16" ∷ []
+
+abbrev pub nine : List String
+nine = slow "actor,1,1,1,1,1" "channel,1,1,2,17,1"
+
+abbrev pub planNine : List String
+planNine = "actor,1,1,1,17825792,0" ∷ "actor,1,2,17,1048576,17825792" ∷ "channel,1,1,2,34,17" ∷ []
+
+abbrev pub longest : List String
+longest = slow "actor,1,1,8,1,1" "channel,1,1,2,128 128 128 128 128 128 128 128,1"
+
+abbrev pub planLongest : List String
+planLongest = "actor,1,1,8,134217728,0" ∷ "actor,1,2,1024,1048576,134217728" ∷ "channel,1,1,2,256,1024" ∷ []
 
 -- the table of P11: a chain of three
 abbrev chain : List String
@@ -203,9 +222,9 @@ lines =
     ∷ line "P5" ("actor,1,1,1,7,1" ∷ []) (prints ("actor,1,1,1,7,0" ∷ []))
     ∷ line "P6" ("actor,1,1,1,1,1" ∷ "actor,1,2,1,1,2" ∷ "channel,1,1,2,2,3" ∷ []) (prints ("actor,1,1,3,2,0" ∷ "actor,1,2,2,3,4" ∷ "channel,1,1,2,8,6" ∷ []))
     ∷ line "P7" ("actor,1,1,1,1,1" ∷ "actor,1,2,1,1,2" ∷ "channel,1,1,2,1,1" ∷ "channel,1,1,2,1,2" ∷ []) (refuses 8 0 1 0 0)
-    ∷ line "P8" (slow "actor,1,1,1,1,1" "channel,1,1,2,16,1") (prints ("actor,1,1,1,16777216,0" ∷ "actor,1,2,16,1048576,16777216" ∷ "channel,1,1,2,32,16" ∷ []))
-    ∷ line "P9" (slow "actor,1,1,1,1,1" "channel,1,1,2,17,1") (prints ("actor,1,1,1,17825792,0" ∷ "actor,1,2,17,1048576,17825792" ∷ "channel,1,1,2,34,17" ∷ []))
-    ∷ line "2026-02, at the limit" (slow "actor,1,1,8,1,1" "channel,1,1,2,128 128 128 128 128 128 128 128,1") (prints ("actor,1,1,8,134217728,0" ∷ "actor,1,2,1024,1048576,134217728" ∷ "channel,1,1,2,256,1024" ∷ []))
+    ∷ line "P8" eight (prints planEight)
+    ∷ line "P9" nine (prints planNine)
+    ∷ line "2026-02, at the limit" longest (prints planLongest)
     ∷ line "2026-02, above it" (slow "actor,1,1,8,1,1" "channel,1,1,2,129 128 128 128 128 128 128 128,1") (refuses 8 0 1 0 0)
     ∷ line "P10" ("actor,1,1,1,1,1" ∷ "actor,1,2,1,1,1" ∷ "channel,1,1,2,1,1" ∷ []) (refuses 9 0 1 0 1)
     ∷ line "P11" chain (refuses 10 0 1 2 0)
