@@ -1,4 +1,6 @@
 // The arguments of a call, one behind the other in some bytes, each ended by a 0.
+#![tactic(auto)]
+
 ghost use Rattle.std.specs.Prelude.{◌≡◌, ◌+◌, length, drop};
 ghost use Rattle.arguments.specs.Argument.{arguments_of, first_of, no_request, RequestOf, FirstBad};
 ghost use Rattle.arguments.specs.Sign.{sign_in};

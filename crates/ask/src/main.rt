@@ -1,4 +1,6 @@
 // A machine on the plan of the table on standard input: the first argument is the starting mode, each further one a request, MODE@CLOCK.
+#![tactic(auto)]
+
 use libc::STDIN_FILENO;
 use units::limits::MOST_BYTES;
 

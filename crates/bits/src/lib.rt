@@ -1,4 +1,6 @@
 // A u16 as a set of the numbers below 16.
+#![tactic(auto)]
+
 ghost use Rattle.std.specs.Prelude.{◌≡◌, ◌<◌};
 ghost use Rattle.numbers.specs.Bits.{Has, With, Without, Within, size as size_of};
 ghost use Rattle.numbers.specs.Decides.{Decides};

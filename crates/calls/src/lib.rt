@@ -1,4 +1,6 @@
 // What the programs `plan` and `ask` print: bytes, laid over a buffer that the caller lends.
+#![tactic(auto)]
+
 mod lines;
 mod session;
 

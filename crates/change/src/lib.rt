@@ -1,4 +1,6 @@
 // The change from one mode to another.
+#![tactic(auto)]
+
 mod wait;
 mod work;
 

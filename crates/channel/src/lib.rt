@@ -1,4 +1,6 @@
 // One channel, for ever: the least start that it asks of its consumer, and the size of its buffer.
+#![tactic(auto)]
+
 mod claims;
 mod pace;
 mod waits;

@@ -1,4 +1,6 @@
 // What the programs read from the operating system, and write to it.
+#![tactic(auto)]
+
 ghost use Rattle.io.specs.Counts.{IsPrefixLen};
 
 use calls::LINE;

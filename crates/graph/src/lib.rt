@@ -1,4 +1,6 @@
 // The graphs of a table's modes: what is refused by 6 to 9, and firings, periods and iteration of the others.
+#![tactic(auto)]
+
 mod balance;
 mod ends;
 mod iteration;

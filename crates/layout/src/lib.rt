@@ -1,4 +1,6 @@
 // The plan buffer: words that hold a table and all that is planned of it, every one of them settled.
+#![tactic(auto)]
+
 pub mod compare;
 pub mod load;
 pub mod store;

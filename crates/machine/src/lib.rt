@@ -1,4 +1,6 @@
 // The machine: it begins in a mode of a plan and answers requests for another.
+#![tactic(auto)]
+
 mod modes;
 
 ghost use Rattle.std.specs.Prelude.{◌≡◌};

@@ -1,4 +1,5 @@
 // Runs the marked requests without a star on the printed table: the arguments are the starting mode and the requests.
+#![tactic(auto)]
 
 fn main() {
     let text =

@@ -1,7 +1,7 @@
 -- The binary places of a number as a set of numbers, and the laws of `&`, `|`, shift and the count of ones.
 use Rattle.std.specs.Prelude.{◌≡◌, refl, Bool, not, ◌&&◌, ◌⊎◌, ◌↔◌, ℕ, zero, suc, ◌+◌, ◌-◌, ◌/◌, ◌%◌, ◌*◌, ◌^◌, ◌<◌, ◌≤◌, min, max, eqb}
 use Rattle.std.proofs.Common.{sym, ap, ◌∙◌, inl, inr, ⊎_elim, zero-le, suc-le-suc, pow-suc, not-suc-le-zero, le_of_suc-le-suc, eq-or-lt_of_le, lt-suc_self, div-one, add_comm, zero-mul, one-mul, add-one, arith, shr-shr, pow_pos}
-use Rattle.std.proofs.Math.Logic.{Iff·symm, Iff·trans}
+use Rattle.std.proofs.Math.Logic.Iff
 use Rattle.std.proofs.Math.Nat.{sub-zero}
 use Rattle.std.proofs.Math.Decide.{dec_lt, ℕ_discrete}
 use Rattle.std.proofs.Math.Arith.{digits_div, digits_mod, lt-one}
@@ -206,10 +206,10 @@ same_set a b h = bit_ext (a + b) a b (omega (arith, lt_pow (a + b))) (omega (ari
 
 -- one set is m with i, and one is m without it
 pub with_is : (m i : ℕ) {r : ℕ} → With m i r → r ≡ adding m i
-with_is m i {r} p = same_set r (adding m i) (λ j. Iff·trans (p j) (Iff·symm (has_adding m i j)))
+with_is m i {r} p = same_set r (adding m i) (λ j. Iff.trans (p j) (Iff.symm (has_adding m i j)))
 
 pub without_is : (m i : ℕ) {r : ℕ} → Without m i r → r ≡ removing m i
-without_is m i {r} p = same_set r (removing m i) (λ j. Iff·trans (p j) (Iff·symm (has_removing m i j)))
+without_is m i {r} p = same_set r (removing m i) (λ j. Iff.trans (p j) (Iff.symm (has_removing m i j)))
 
 -- a is within b exactly when `a & b` is a
 pub within_and : (a b : ℕ) → (bit_and a b ≡ a) ↔ Within a b

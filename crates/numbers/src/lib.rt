@@ -1,4 +1,6 @@
 // Number laws: they know nothing of pipelines.
+#![tactic(auto)]
+
 pub mod common;
 pub mod extreme;
 pub mod fraction;

@@ -1,4 +1,6 @@
 // The period rule, between ticks and firings.
+#![tactic(auto)]
+
 ghost use Rattle.std.specs.Prelude.{◌≡◌, ◌^◌, ◌<◌};
 ghost use Rattle.period.specs.Period.{begins_at, ends_at, work_of, CommonWithin, IterationWithin, period_of, share_of};
 

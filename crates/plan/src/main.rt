@@ -1,4 +1,6 @@
 // Plans the table on standard input, and prints the plan or the refusal.
+#![tactic(auto)]
+
 use libc::STDIN_FILENO;
 use units::limits::MOST_BYTES;
 

@@ -1,4 +1,6 @@
 // The planner: a table into the caller's words, whether words are a plan, and what is printed of one.
+#![tactic(auto)]
+
 mod changes;
 mod held;
 mod modes;

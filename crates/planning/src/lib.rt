@@ -1,4 +1,6 @@
 // The plan of a mode by itself.
+#![tactic(auto)]
+
 pub mod modes;
 
 use terms::refusal::Refusal;

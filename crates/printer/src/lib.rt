@@ -1,4 +1,6 @@
 // The text that is printed of a plan, and of a refusal.
+#![tactic(auto)]
+
 mod bytes;
 mod lines;
 

@@ -1,4 +1,6 @@
 // The rate rule, between firings and tokens; and, with the period rule, the pace of a channel.
+#![tactic(auto)]
+
 pub mod pace;
 
 ghost use Rattle.std.specs.Prelude.{◌≡◌, cond, ◌*◌, ◌^◌, ◌<◌, ◌≤◌, length, take};

@@ -1,4 +1,6 @@
 // The reader of tables: RFC 4180 text to modes in memory, or the first refusal of 1 to 5.
+#![tactic(auto)]
+
 ghost use Rattle.std.specs.Prelude.{◌≡◌, ◌<◌, length};
 ghost use Rattle.units.specs.Limits.{ACTORS};
 ghost use Rattle.tables.specs.Memory.{FRONT_WORDS};

@@ -1,4 +1,6 @@
 // When each actor of a mode starts, and the size of each channel's buffer.
+#![tactic(auto)]
+
 mod ends;
 mod sizes;
 mod starts;

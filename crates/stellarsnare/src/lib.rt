@@ -1,4 +1,6 @@
 // The face for firmware: plans, machines and requests as plain numbers, for a caller in C.
+#![tactic(auto)]
+
 ghost use Rattle.std.specs.Prelude.{◌≡◌, true, false};
 ghost use Rattle.terms.specs.Refusal.{no_numbers, numbers_of};
 ghost use Rattle.stellarsnare.specs.Face.{three_of, PlanTold, StartTold, RequestTold, PrintTold};

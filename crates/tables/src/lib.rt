@@ -1,4 +1,6 @@
 // A table in memory. Modes, actors and processors are numbered from 1 in a table's text; in memory the one with number n stands at place n - 1.
+#![tactic(auto)]
+
 mod actors;
 mod channels;
 pub mod homes;

@@ -1,3 +1,5 @@
 // The words of the planner that are no counts: places and refusals.
+#![tactic(auto)]
+
 pub mod place;
 pub mod refusal;

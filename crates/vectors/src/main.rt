@@ -1,5 +1,7 @@
 // The tables and the calls of the vectors, one after the other. An argument that ends in .csv names a table; where the next one is a starting mode, those up to the
 // next table are requests, and otherwise the table's plan is printed.
+#![tactic(auto)]
+
 use units::limits::MOST_BYTES;
 
 fn is_table(word: &[u8]) -> bool {
