@@ -33,7 +33,7 @@ pub(crate) fn overlap_of(old: &[u64], new: &[u64]) -> Tick
 }
 
 // An actor of a change: its start, and what those ask of its processor that count wherever it counts.
-#[derive(Drop)]
+#[derive(Clone, Copy)]
 pub(crate) struct Side {
     pub start: Tick,
     pub asked: Fraction,

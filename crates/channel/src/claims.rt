@@ -15,7 +15,7 @@ use units::{Tick, Token};
 pub(crate) const HOLD_WORDS: usize = 3;
 
 // A phase of either end: by how many tokens it makes a claim more and fewer, and the ticks that are left over whole steps.
-#[derive(Drop)]
+#[derive(Clone, Copy)]
 pub(crate) struct Hold {
     pub more: Token,
     pub fewer: Token,

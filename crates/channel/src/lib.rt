@@ -18,7 +18,7 @@ use units::{Tick, Token};
 use waits::MARK_WORDS;
 
 // One end of a channel: what each firing makes or takes, phase by phase, and the period of the firings.
-#[derive(Drop)]
+#[derive(Clone, Copy)]
 pub struct End {
     pub phases: usize,
     pub rates: [u8; PHASES],

@@ -9,7 +9,7 @@ use rate::pace::{Step, step_of};
 use units::{Tick, Token};
 
 // The step of a channel's pace; and the tokens and the ticks of some cycles of the producer, which are added so that no difference falls below 0.
-#[derive(Drop)]
+#[derive(Clone, Copy)]
 pub(crate) struct Pace {
     pub step: Step,
     pub tokens: Token,

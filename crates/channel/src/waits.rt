@@ -15,7 +15,7 @@ use units::{Tick, Token};
 pub(crate) const MARK_WORDS: usize = 3;
 
 // A phase of either end: by how many ticks it brings a wait later and sooner, and the tokens that are left over whole steps.
-#[derive(Drop)]
+#[derive(Clone, Copy)]
 pub(crate) struct Mark {
     pub later: Tick,
     pub sooner: Tick,

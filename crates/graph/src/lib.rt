@@ -24,7 +24,7 @@ use units::limits::{ACTORS, PROCESSORS};
 use units::{Firing, Tick};
 
 // The first of the refusals 6 to 9 that applies to a mode, 9 with the place of its processor; or that none does.
-#[derive(Drop)]
+#[derive(Clone, Copy)]
 pub enum Verdict {
     Cyclic,
     Ends,
@@ -34,7 +34,7 @@ pub enum Verdict {
 }
 
 // What is judged of a mode. Places of actors count from 0.
-#[derive(Drop)]
+#[derive(Clone, Copy)]
 pub struct Judgement {
     pub verdict: Verdict,
     pub source: usize,

@@ -9,7 +9,7 @@ use tables::memory::{channel_at, head_of};
 use units::limits::ACTORS;
 
 // The actors that are done, those that are left, and the depths of those that are done.
-#[derive(Drop)]
+#[derive(Clone, Copy)]
 pub(crate) struct Order {
     pub done: u16,
     pub left: u16,

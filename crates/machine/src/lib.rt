@@ -16,7 +16,7 @@ use units::Tick;
 use units::limits::CLOCK_LIMIT;
 
 // A mode, by its number, the tick at which it started, and the tick at which its change ends.
-#[derive(Drop)]
+#[derive(Clone, Copy)]
 pub struct Machine {
     pub mode: u64,
     pub started: Tick,

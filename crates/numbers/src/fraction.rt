@@ -4,7 +4,7 @@ ghost use Rattle.numbers.specs.Decides.{Decides};
 ghost use Rattle.numbers.specs.Fraction.{Proper, AtMost, plus as plus_of};
 
 // `over` parts of a whole that is cut in `under` parts.
-#[derive(Drop)]
+#[derive(Clone, Copy)]
 pub struct Fraction {
     pub over: u64,
     pub under: u64,

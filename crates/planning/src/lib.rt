@@ -8,7 +8,7 @@ use units::limits::{ACTORS, CHANNELS};
 use units::{Firing, Tick, Token};
 
 // What is planned of a mode. Places of actors count from 0; all 0 where the mode is not listed.
-#[derive(Drop)]
+#[derive(Clone, Copy)]
 pub struct ModePlan {
     pub source: usize,
     pub sink: usize,

@@ -6,7 +6,7 @@ use numbers::common::gcd32;
 use units::{Tick, Token};
 
 // A step of a channel: its tokens, and the ticks that they last.
-#[derive(Drop)]
+#[derive(Clone, Copy)]
 pub struct Step {
     pub tokens: Token,
     pub ticks: Tick,

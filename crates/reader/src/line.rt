@@ -17,7 +17,7 @@ use units::limits::{ACTORS, FIELDS, MODES, PHASES};
 use units::{Tick, limits};
 
 // What stands at a place of a text: a row of either kind, a record that is no row, or no record of six fields.
-#[derive(Drop)]
+#[derive(Clone, Copy)]
 pub enum Kind {
     Actor,
     Channel,
@@ -27,7 +27,7 @@ pub enum Kind {
 
 // A row: in a mode an actor, with what it is, or a channel from an actor to another, with their rates. Modes and actors by their places. And the place
 // behind the row.
-#[derive(Drop)]
+#[derive(Clone, Copy)]
 pub struct Line {
     pub kind: Kind,
     pub mode: usize,

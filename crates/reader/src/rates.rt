@@ -6,7 +6,7 @@ use rfc4180::decimal::{Item, item_at};
 use units::limits::{MOST_RATE, PHASES};
 
 // How many rates a list has, and the first of them, with 0 behind the last. No rate where there is no list.
-#[derive(Drop)]
+#[derive(Clone, Copy)]
 pub struct Rates {
     pub count: usize,
     pub values: [u8; PHASES],

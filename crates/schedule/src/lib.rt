@@ -18,7 +18,7 @@ use units::limits::{ACTORS, CHANNELS};
 use units::{Tick, Token};
 
 // Whether some actor starts later than the sink: the lowest such actor, by its place.
-#[derive(Drop)]
+#[derive(Clone, Copy)]
 pub enum Timing {
     Late(usize),
     OnTime,

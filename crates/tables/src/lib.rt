@@ -11,7 +11,7 @@ use units::Tick;
 use units::limits::PHASES;
 
 // A stage of a mode: its phases, the most ticks that a firing needs, and the number of its processor.
-#[derive(Drop)]
+#[derive(Clone, Copy)]
 pub struct Actor {
     pub phases: usize,
     pub wcet: Tick,
@@ -19,7 +19,7 @@ pub struct Actor {
 }
 
 // A channel of a mode: the places of its two actors, and their rates, one for each phase, with 0 behind the last.
-#[derive(Drop)]
+#[derive(Clone, Copy)]
 pub struct Channel {
     pub from: usize,
     pub to: usize,

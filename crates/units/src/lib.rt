@@ -9,11 +9,11 @@ pub mod limits;
 mod ticks;
 mod tokens;
 
-#[derive(Drop)]
+#[derive(Clone, Copy)]
 pub struct Tick(u64);
 
-#[derive(Drop)]
+#[derive(Clone, Copy)]
 pub struct Firing(u64);
 
-#[derive(Drop)]
+#[derive(Clone, Copy)]
 pub struct Token(u64);
