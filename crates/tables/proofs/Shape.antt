@@ -1,10 +1,9 @@
 -- What its type tells of the rates of a channel. Assumes nothing.
 use mathlib.Core.List.{List}
-use Prim.Native.Nat.{ℕ}
 use native.Mathlib.Omega.{arith}
 use mir.Val.{Val}
 use mir.Syntax.{w8}
-use borrow.Author.Rules.{elem_fits_field, length_unmapped}
+use borrow.Author.Rules.{elem_Fits}
 use denote.Laws.{Is}
 use denote.Struct.Declared.{row}
 use Rattle.tables.specs.declared.Channel.{Channel}
@@ -20,11 +19,11 @@ pub channel_shape : (c : Channel) (vs : List Val) → Is (row channel.the_type) 
 channel_shape c vs g =
     record {
       production = record {
-        long = length_unmapped ℕ c.production 8 g.1.1.1.1.0.1.0.1;
-        small = λ k. omega (arith, elem_fits_field w8 w8 c.production _ k g.1.1.1.1.0.1.1 tt);
+        long = g.1.1.1.1.0.1.0.1;
+        small = λ k. omega (arith, elem_Fits w8 w8 c.production _ k g.1.1.1.1.0.1.1 tt);
       };
       consumption = record {
-        long = length_unmapped ℕ c.consumption 8 g.1.1.1.1.1.0.1.0.1;
-        small = λ k. omega (arith, elem_fits_field w8 w8 c.consumption _ k g.1.1.1.1.1.0.1.1 tt);
+        long = g.1.1.1.1.1.0.1.0.1;
+        small = λ k. omega (arith, elem_Fits w8 w8 c.consumption _ k g.1.1.1.1.1.0.1.1 tt);
       };
     }

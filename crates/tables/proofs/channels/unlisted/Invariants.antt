@@ -1,0 +1,12 @@
+use Prim.Native.Nat.{◌≤◌, ◌-◌}
+use Rattle.numbers.specs.All.{Below}
+use Rattle.units.specs.Limits.{CHANNELS}
+use Rattle.tables.specs.Memory.{head_in, mode_in}
+use Rattle.tables.specs.Parts.{ChannelLeft}
+use Rattle.tables.proofs.channels.unlisted.Given as goal
+
+abbrev pub invariant-loop-k : goal.invariant-loop-k
+invariant-loop-k l = ((head_in l.front).count ≤ l.k) × (l.k ≤ CHANNELS) × Below (ChannelLeft (mode_in l.front l.channels)) l.k
+
+abbrev pub decreases-loop-k : goal.decreases-loop-k
+decreases-loop-k l = CHANNELS - l.k

@@ -1,0 +1,36 @@
+-- tables::memory::actor_at meets its contract.
+use native.Mathlib.Omega.{arith}
+use Rattle.tables.proofs.memory.actor_at.Goals as goal
+
+pub returns : goal.returns
+returns c = simp c.of.ensures
+
+pub overflow_mul-at : goal.overflow_mul-at
+overflow_mul-at c = omega arith
+
+pub overflow_add-at : goal.overflow_add-at
+overflow_add-at c = omega arith
+
+pub offset_bounds-front-at : goal.offset_bounds-front-at
+offset_bounds-front-at c = omega arith
+
+pub bounds-front-at : goal.bounds-front-at
+bounds-front-at c = omega arith
+
+pub overflow_add-at-2 : goal.overflow_add-at-2
+overflow_add-at-2 c = omega arith
+
+pub offset_bounds-front-at-2 : goal.offset_bounds-front-at-2
+offset_bounds-front-at-2 c = omega arith
+
+pub bounds-front-at-2 : goal.bounds-front-at-2
+bounds-front-at-2 c = omega arith
+
+pub overflow_add-result : goal.overflow_add-result
+overflow_add-result c = omega arith
+
+pub offset_bounds-front-at-3 : goal.offset_bounds-front-at-3
+offset_bounds-front-at-3 c = omega arith
+
+pub bounds-front-at-3 : goal.bounds-front-at-3
+bounds-front-at-3 c = omega arith
