@@ -85,7 +85,7 @@ writes_behind {n} {p} (b ∷ s) pos w h =
     let e : 48 + (b - 48) ≡ b = omega (arith, h.0.0) in
     let v : Writes (n * 10 + (b - 48)) (p ++ (b ∷ [])) =
     subst (λ (x : ℕ). Writes (n * 10 + (b - 48)) (p ++ (x ∷ []))) e (Writes.longer pos w (omega (arith, h.0.1))) in
-    rw append_assoc at (writes_behind s (omega arith) v h.1)
+    rw append_assoc at (writes_behind {n = n * 10 + (b - 48)} {p = p ++ (b ∷ [])} s (omega arith) v h.1)
 
 -- the test of a byte, of each byte, and of a text that is a number
 abbrev pub digitb : ℕ → Bool

@@ -1,17 +1,13 @@
 -- What the class of the byte at a place says of the fields that stand there. Assumes nothing.
 use mathlib.Core.Path.{◌≡◌, refl, ap, sym, subst, ◌∙◌}
-use mathlib.Core.Bool.{not}
 use mathlib.Core.List.{List, [], ◌∷◌, ◌++◌}
+use mathlib.Core.Logic.{◌⊎◌, inl, inr}
 use Prim.Native.Nat.{ℕ, suc, ◌+◌, ◌-◌, ◌<◌}
 use native.Mathlib.Omega.{arith}
-use lib.Dec.{T}
-use mir.Val.{has_key}
 use lib.ListN.{length, get_or, drop, length-append, length-drop}
 use lib.Seq.{drop-drop}
-use types.Run.{OneOf}
-use denote.Enum.Declared.{tag_of}
 use Rattle.rfc4180.specs.declared.bytes.Class.{Class}
-use Rattle.rfc4180.specs.declared.bytes.Class.TheVariants.{Text, Comma, Quote, Return, Feed, Nothing}
+use Rattle.rfc4180.specs.declared.bytes.Class.TheVariants.{Text, Comma, Quote, Return, Feed, Other, Nothing}
 use Rattle.rfc4180.specs.declared.record.Closed.TheVariants.{At, Never}
 use Rattle.rfc4180.specs.declared.record.Field.TheVariants.{Is, Broken}
 use Rattle.rfc4180.specs.declared.record.After.TheVariants.{More, End, Neither}
@@ -19,8 +15,7 @@ use Rattle.rfc4180.specs.declared.record.Closed.{Closed}
 use Rattle.rfc4180.specs.Bytes.{class_of, class_at}
 use Rattle.rfc4180.specs.Grammar.{Cell, plain, quoted, cell_text, Inner, Inside, nothing, byte, pair, Means, as_is, between, RecordEnd, crlf, over}
 use Rattle.rfc4180.specs.Records.{span_of, PlainTo, ends, ClosedAt, closed, never, Whole, FieldAt, stands, broken, AfterAt, comma, end, neither}
-use Rattle.rfc4180.specs.contracts.bytes.Class.{the_type}
-use Rattle.rfc4180.proofs.Classes.{arm, other, apart, front, inside, at_front}
+use Rattle.rfc4180.proofs.Classes.{front, inside, at_front}
 use Rattle.rfc4180.proofs.Grammar.{no_inner, quote_front, quoted_text}
 
 -- what stands behind a byte between quotes, and behind two quotes there
@@ -51,10 +46,37 @@ end_front over n m = n refl
 pub closed_within : (s : List ℕ) (i : ℕ) {e : ℕ} → ClosedAt s i (At e) → e < length s
 closed_within s i (closed {t} u d n q) = omega (arith, length-drop i s, length-append t (34 ∷ u), ap length q)
 
+-- what the classes are not, and what may stand between quotes
+text_some : Text ≡ Nothing → ⊥
+text_some e = cc
+
+feed_some : Feed ≡ Nothing → ⊥
+feed_some e = cc
+
+pub return_else : {x : Class} → x ≡ Return → (x ≡ Comma → ⊥) × (x ≡ Nothing → ⊥)
+return_else e = (λ f. cc, λ f. cc)
+
+pub inner_of : (x : Class) → (x ≡ Quote → ⊥) → (x ≡ Other → ⊥) → (x ≡ Nothing → ⊥) → Inner x
+inner_of Text p q r = tt
+inner_of Comma p q r = tt
+inner_of Quote p q r = absurd (p refl)
+inner_of Return p q r = tt
+inner_of Feed p q r = tt
+inner_of Other p q r = absurd (q refl)
+inner_of Nothing p q r = absurd (r refl)
+
+none_inner : {x : Class} → (x ≡ Other) ⊎ (x ≡ Nothing) → Inner x → ⊥
+none_inner (inl e) i = subst Inner e i
+none_inner (inr e) i = subst Inner e i
+
+none_quote : {x : Class} → (x ≡ Other) ⊎ (x ≡ Nothing) → x ≡ Quote → ⊥
+none_quote (inl e) q = cc
+none_quote (inr e) q = cc
+
 -- at a place where the class x was found
 module _ (s : List ℕ) (i : ℕ) {x : Class} (found : x ≡ class_at (drop i s)) where
-  pub stood : (y : Class) → T (not (has_key (tag_of the_type y ∷ []) (tag_of the_type Nothing))) → x ≡ y → i < length s
-  stood y n e = inside s i (λ z. apart y Nothing n (sym e ∙ found ∙ z))
+  pub stood : {y : Class} → (y ≡ Nothing → ⊥) → x ≡ y → i < length s
+  stood n e = inside s i (λ z. n (sym e ∙ found ∙ z))
 
   pub inner_stood : Inner x → i < length s
   inner_stood j = inside s i (λ z. subst Inner (found ∙ z) j)
@@ -62,15 +84,15 @@ module _ (s : List ℕ) (i : ℕ) {x : Class} (found : x ≡ class_at (drop i s)
   pub quote_at : x ≡ Quote → drop i s ≡ 34 ∷ drop (i + 1) s
   quote_at e = rw (drop-drop 1 i s) at (front (drop i s) Quote (sym found ∙ e))
 
-  pub plain_here : OneOf (1 ∷ 2 ∷ 3 ∷ 4 ∷ 5 ∷ 6 ∷ []) (tag_of the_type x) → PlainTo s i i
+  pub plain_here : (x ≡ Text → ⊥) → PlainTo s i i
   plain_here h =
       let e : i + 0 ≡ i = omega arith in
-      subst (PlainTo s i) e (ends [] (drop i s) tt (λ q. other Text (1 ∷ 2 ∷ 3 ∷ 4 ∷ 5 ∷ 6 ∷ []) x tt h (found ∙ q)) refl)
+      subst (PlainTo s i) e (ends [] (drop i s) tt (λ q. h (found ∙ q)) refl)
 
   pub plain_more : x ≡ Text → {r : ℕ} → PlainTo s (i + 1) r → PlainTo s i r
   plain_more e (ends t u h n q) =
       let b = get_or s i 0 in
-      let f = at_front s i (stood Text tt e) in
+      let f = at_front s i (stood text_some e) in
       let l : i + suc (length t) ≡ i + 1 + length t = omega arith in
       subst (PlainTo s i) l (ends (b ∷ t) u (ap class_at (sym f) ∙ sym found ∙ e, h) n (f ∙ ap (λ (w : List ℕ). b ∷ w) q))
 
@@ -89,20 +111,20 @@ module _ (s : List ℕ) (i : ℕ) {x : Class} (found : x ≡ class_at (drop i s)
           subst (λ (m : ℕ). ClosedAt s i (At m)) l (closed u (byte g d) n (f ∙ ap (λ (w : List ℕ). get_or s i 0 ∷ w) q))
       go (never h) = never (λ t c u d n q. let r = inner_tail d (get_or s i 0) (drop (i + 1) s) u g (sym f ∙ q) in h r.0 r.1 u r.2 n r.3)
 
-  pub closed_never : OneOf (5 ∷ 6 ∷ []) (tag_of the_type x) → ClosedAt s i Never
+  pub closed_never : (x ≡ Other) ⊎ (x ≡ Nothing) → ClosedAt s i Never
   closed_never h =
       never
-      (λ t c u d n q. arm (λ y. Inner y → ⊥) (5 ∷ 6 ∷ []) x (λ z. z, (λ z. z, tt)) h
-      (subst Inner (ap class_at (sym q) ∙ sym found) (opening d u (λ z. other Quote (5 ∷ 6 ∷ []) x tt h (found ∙ ap class_at q ∙ z)))))
+      (λ t c u d n q. none_inner h
+      (subst Inner (ap class_at (sym q) ∙ sym found) (opening d u (λ z. none_quote h (found ∙ ap class_at q ∙ z)))))
 
   module _ {y : Class} (next : y ≡ class_at (drop (i + 1) s)) where
-    pub closed_here : x ≡ Quote → OneOf (0 ∷ 1 ∷ 3 ∷ 4 ∷ 5 ∷ 6 ∷ []) (tag_of the_type y) → ClosedAt s i (At i)
+    pub closed_here : x ≡ Quote → (y ≡ Quote → ⊥) → ClosedAt s i (At i)
     closed_here e h =
         let l : i + 0 ≡ i = omega arith in
-        subst (λ (m : ℕ). ClosedAt s i (At m)) l (closed (drop (i + 1) s) nothing (λ q. other Quote (0 ∷ 1 ∷ 3 ∷ 4 ∷ 5 ∷ 6 ∷ []) y tt h (next ∙ q)) (quote_at e))
+        subst (λ (m : ℕ). ClosedAt s i (At m)) l (closed (drop (i + 1) s) nothing (λ q. h (next ∙ q)) (quote_at e))
 
-  pub field_plain : OneOf (0 ∷ 1 ∷ 3 ∷ 4 ∷ 5 ∷ 6 ∷ []) (tag_of the_type x) → {e : ℕ} → PlainTo s i e → FieldAt s i (Is (record { start = i; end = e }) e)
-  field_plain h (ends t u k n q) = stands {f = plain t} u (as_is k) (n, λ z. other Quote (0 ∷ 1 ∷ 3 ∷ 4 ∷ 5 ∷ 6 ∷ []) x tt h (found ∙ ap class_at q ∙ z)) q
+  pub field_plain : (x ≡ Quote → ⊥) → {e : ℕ} → PlainTo s i e → FieldAt s i (Is (record { start = i; end = e }) e)
+  field_plain h (ends t u k n q) = stands {f = plain t} u (as_is k) (n, λ z. h (found ∙ ap class_at q ∙ z)) q
 
   pub field_quoted : x ≡ Quote → {e : ℕ} → ClosedAt s (i + 1) (At e) → FieldAt s i (Is (record { start = i + 1; end = e }) (e + 1))
   field_quoted e (closed {t} u d n q) =
@@ -152,5 +174,5 @@ module _ (s : List ℕ) (i : ℕ) {x y : Class} (found : x ≡ class_at (drop i 
       let p = rw (drop-drop 1 i s) at (front (drop i s) Return (sym found ∙ e)) in
       let q = rw (drop-drop 1 (i + 1) s) at (front (drop (i + 1) s) Feed (sym next ∙ g)) in
       let f : 13 ∷ 10 ∷ drop (i + 2) s ≡ drop i s = sym (p ∙ ap (λ (w : List ℕ). 13 ∷ w) (q ∙ ap (λ (w : List ℕ). 10 ∷ w) two)) in
-      let l : length s - length (drop (i + 2) s) ≡ i + 2 = omega (arith, length-drop (i + 2) s, stood s (i + 1) next Feed tt g) in
+      let l : length s - length (drop (i + 2) s) ≡ i + 2 = omega (arith, length-drop (i + 2) s, stood s (i + 1) next feed_some g) in
       subst (λ (m : ℕ). AfterAt s i (End m)) l (end (subst (λ (w : List ℕ). RecordEnd w (drop (i + 2) s)) f crlf))

@@ -8,7 +8,7 @@ use crate::bytes::{Class, class_at};
 pub const KEPT: usize = 8;
 
 // Where the bytes of a field stand: for a quoted one, those between its quotes.
-#[derive(Drop)]
+#[derive(Clone, Copy)]
 pub struct Span {
     pub start: usize,
     pub end: usize,

@@ -1,6 +1,5 @@
 -- bits::has meets its contract.
 use Prim.Native.Nat.{◌/◌, ◌^◌}
-use borrow.Author.Rules.{rules}
 use native.Mathlib.Omega.{arith}
 use lib.Bits.{and_mask}
 use Rattle.numbers.specs.Bits.{bit, bit_shift, bit_out, Has}

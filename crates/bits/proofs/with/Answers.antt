@@ -3,7 +3,6 @@ use native.Mathlib.Nat.{one-mul}
 use native.Mathlib.Omega.{arith}
 use lib.Dec.{lit<}
 use lib.Pow.{shl_exact}
-use borrow.Author.Rules.{rules}
 use Rattle.numbers.specs.Bits.{has_adding}
 use Rattle.bits.proofs.with.Goals as goal
 

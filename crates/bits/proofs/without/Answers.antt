@@ -5,7 +5,6 @@ use native.Mathlib.Nat.{one-mul, zero-mul, sub-zero}
 use native.Mathlib.Omega.{arith}
 use lib.Dec.{lit<}
 use lib.Pow.{shl_exact}
-use borrow.Author.Rules.{rules}
 use Rattle.numbers.specs.Bits.{has_pow, has_removing, lacks}
 use Rattle.numbers.specs.Decides.{decides_true, decides_false}
 use Rattle.bits.proofs.without.Goals as goal
