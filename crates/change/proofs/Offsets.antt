@@ -94,10 +94,12 @@ module _ (r : Running) (ready : Ready r) (i : ℕ) (l : i < ACTORS) where
 
       since : (w : Tick) (x y z : Bool) → T z → (cond (x && y) w (tick 0)).0 ≡ (cond (x && (y && z)) w (tick 0)).0
       since w x true true t = refl
+      since w x true false t = elim t [ ]
       since w x false z t = refl
 
       until : (w : Tick) (x y z : Bool) → T z → (cond (x && y) w (tick 0)).0 ≡ (cond (x && (z && y)) w (tick 0)).0
       until w x y true t = refl
+      until w x y false t = elim t [ ]
 
 module _ (limit : ℕ → Fraction) where
   -- a mode's work on a processor is within the limit
