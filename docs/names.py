@@ -12,14 +12,14 @@ import sys
 
 TOP = os.path.dirname(os.path.dirname(os.path.abspath(__file__)))
 START = re.compile(r'(?:(?:abbrev|unfoldable) pub|pub (?:data|record)) ([^\s:({]+)')
-USE = re.compile(r'use Rattle·(\w+?)(?:·specs)?\.specs\.([\w.]+?)\.\{(.*)\}')
-USE_AS = re.compile(r'use Rattle·(\w+?)(?:·specs)?\.specs\.([\w.]+) as (\S+)')
+USE = re.compile(r'use Rattle\.(\w+)\.specs\.([\w.]+?)\.\{(.*)\}')
+USE_AS = re.compile(r'use Rattle\.(\w+)\.specs\.([\w.]+) as (\S+)')
 
 
 def files(folder, ends):
     for where, _, names in os.walk(os.path.join(TOP, folder)):
         for name in sorted(names):
-            if name.endswith(ends) and os.sep + 'target' + os.sep not in where:
+            if name.endswith(ends) and os.sep + 'out' + os.sep not in where:
                 yield os.path.join(where, name)
 
 
