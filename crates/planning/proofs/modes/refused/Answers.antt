@@ -1,5 +1,4 @@
 -- planning::modes::refused meets its contract.
-use borrow.Author.Rules.{rules}
 use Rattle.planning.proofs.modes.refused.Goals as goal
 
 pub returns : goal.returns
