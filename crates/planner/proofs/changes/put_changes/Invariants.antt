@@ -1,0 +1,12 @@
+use Prim.Native.Nat.{◌≤◌, ◌-◌}
+use lib.ListN.{take}
+use Rattle.layout.specs.Words.{CHANGES}
+use Rattle.planner.specs.Changes.{MODES_WORDS}
+use Rattle.planner.proofs.Timing.{Changed}
+use Rattle.planner.proofs.changes.put_changes.Given as goal
+
+abbrev pub invariant-loop-n : goal.invariant-loop-n
+invariant-loop-n l = (l.n ≤ CHANGES) × Changed (take MODES_WORDS l.initial.words) l.words l.n
+
+abbrev pub decreases-loop-n : goal.decreases-loop-n
+decreases-loop-n l = CHANGES - l.n
