@@ -46,12 +46,15 @@ module _ {t : Table} {w : Plan} {words : List ℕ} (l : Leaves t w words) where
   pub answers_run : {m : Machine} {a : Answer} (s : Run) (r : Request) → seen m ≡ s.now → Answers words m r.mode (tick r.tick) a
       → seen a.machine ≡ (answer (plan_of t w) s r).now
   unfolding answer
-  answers_run s r e (Answers.not_stored n) = absurd (n (leaves_stored l))
-  answers_run s r e (Answers.refused k f) =
-      rw (ne_eqb (Run.refusal (plan_of t w) s.now r) 0 (λ z. omega (arith, f, same_refusal k l r e, z))) e
-  answers_run s r e (Answers.accepted k f) =
-      rw (eq-eqb (Run.refusal (plan_of t w) s.now r) 0 (sym (same_refusal k l r e) ∙ f))
-      (λ i. Run.changed (plan_of (leaves_table k l i) (leaves_plan k l i)) (e i) r)
+  answers_run {m = m} s r e x = go x
+    where
+      go : {a : Answer} → Answers words m r.mode (tick r.tick) a → seen a.machine ≡ (answer (plan_of t w) s r).now
+      go (Answers.not_stored n) = absurd (n (leaves_stored l))
+      go (Answers.refused k f) =
+          rw (ne_eqb (Run.refusal (plan_of t w) s.now r) 0 (λ z. omega (arith, f, same_refusal k l r e, z))) e
+      go (Answers.accepted k f) =
+          rw (eq-eqb (Run.refusal (plan_of t w) s.now r) 0 (sym (same_refusal k l r e) ∙ f))
+          (λ i. Run.changed (plan_of (leaves_table k l i) (leaves_plan k l i)) (e i) r)
 
   -- answered one after the other, requests lead to the machine of the run
   pub follows_run : {m n : Machine} {rs : List Request} (s : Run) → seen m ≡ s.now → Follows words m rs n → seen n ≡ (run (plan_of t w) s rs).now
@@ -90,13 +93,18 @@ module _ {t : Table} {w : Plan} {words : List ℕ} (l : Leaves t w words) where
       → (Run.refusal (plan_of t w) (seen m) (asking mode clock) ≡ 0) × (d ≡ tick (Run.delay (plan_of t w) (seen m) (asking mode clock)))
       × (seen a.machine ≡ Run.changed (plan_of t w) (seen m) (asking mode clock))
   unfolding delay_or
-  granted mode clock (Answers.not_stored n) e = absurd (n (leaves_stored l))
-  granted mode clock (Answers.refused k f) e = let z : ◌≡◌ {A = ℕ} 0 1 = cc in absurd (omega arith)
-  granted {m} {d = d} mode clock (Answers.accepted k f) e = (
-    sym (same_refusal k l (asking mode clock) (refl {a = seen m})) ∙ f,
-    sym (ap (delay_or d) e) ∙ (λ i. tick (Run.delay (plan_of (leaves_table k l i) (leaves_plan k l i)) (seen m) (asking mode clock))),
-    (λ i. Run.changed (plan_of (leaves_table k l i) (leaves_plan k l i)) (seen m) (asking mode clock)),
-  )
+  granted {m = m} {d = d} mode clock x e = go x e
+    where
+      go : {a : Answer} → Answers words m mode clock a → a.reply ≡ Accepted d
+          → (Run.refusal (plan_of t w) (seen m) (asking mode clock) ≡ 0) × (d ≡ tick (Run.delay (plan_of t w) (seen m) (asking mode clock)))
+          × (seen a.machine ≡ Run.changed (plan_of t w) (seen m) (asking mode clock))
+      go (Answers.not_stored n) e = absurd (n (leaves_stored l))
+      go (Answers.refused k f) e = let z : ◌≡◌ {A = ℕ} 0 1 = cc in absurd (omega arith)
+      go (Answers.accepted k f) e = (
+        sym (same_refusal k l (asking mode clock) (refl {a = seen m})) ∙ f,
+        sym (ap (delay_or d) e) ∙ (λ i. tick (Run.delay (plan_of (leaves_table k l i) (leaves_plan k l i)) (seen m) (asking mode clock))),
+        (λ i. Run.changed (plan_of (leaves_table k l i) (leaves_plan k l i)) (seen m) (asking mode clock)),
+      )
 
   -- the delay is from the request to the tick set for the sink's first firing
   pub delayed : {m : Machine} {a : Answer} {d : Tick} (mode : ℕ) (clock : Tick) → Answers words m mode clock a → a.reply ≡ Accepted d

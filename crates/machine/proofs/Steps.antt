@@ -33,7 +33,7 @@ use Rattle.machine.specs.declared.Course.{Course}
 use Rattle.machine.specs.declared.Beginning.TheVariants.{Begun}
 use Rattle.machine.specs.declared.Reply.TheVariants.{Accepted}
 use Rattle.machine.specs.declared.Answer.{Answer}
-use Rattle.machine.specs.Answers.{seen, asking, machine, Meant, Begins, begun, refusing, accepting, Answers, refused, accepted}
+use Rattle.machine.specs.Answers.{seen, asking, Meant, Begins, begun, refusing, accepting, Answers, refused, accepted}
 use Rattle.machine.specs.Steps.{lowest_of, course_of, Near, left_of, changed_of}
 
 -- a mode in the range is listed when it has an actor, and no other is

@@ -1,7 +1,0 @@
--- machine::Machine::refuse meets its contract. Assumes nothing.
-use borrow.Author.Rules.{rules}
-use Rattle.machine.proofs.Machine.refuse.Statement.{statement}
-use Rattle.machine.proofs.Machine.refuse.Tie as tie
-
-pub refuse-spec : {M : Type 1} → statement M
-refuse-spec = tie.close (tie.spec (λ c κs. search rules) (λ c. rw c.refusal.ensures))
