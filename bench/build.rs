@@ -13,6 +13,6 @@ fn main() {
         println!("cargo:rustc-cfg=product");
         println!("cargo:rustc-link-search=native={}", folder.display());
     } else {
-        println!("cargo:warning=no libstellarsnare.a: run rt staticlib stellarsnare first");
+        println!("cargo:warning=no libstellarsnare.a: run tools/staticlib.sh first");
     }
 }

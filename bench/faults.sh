@@ -1,5 +1,5 @@
 #!/usr/bin/env bash
-# Input that cannot be read and output that cannot be written, after `rt check plan ask`: each fault must be told on standard error, with no answer on standard output.
+# Input that cannot be read and output that cannot be written, after `rt run` in crates/plan and crates/ask: each fault must be told on standard error, with no answer on standard output.
 # RUN, where it is set, is put before the programs: an emulator, on a processor other than x86-64.
 set -uo pipefail
 top=$(cd "$(dirname "$0")/.." && pwd)
@@ -7,8 +7,8 @@ work=$(mktemp -d)
 trap 'rm -rf "$work"' EXIT
 cd "$work"
 table=$top/examples/printed.csv
-plan="${RUN:-} $top/target/bin/plan"
-ask="${RUN:-} $top/target/bin/ask"
+plan="${RUN:-} $top/crates/plan/out/plan"
+ask="${RUN:-} $top/crates/ask/out/ask"
 failed=0
 
 # what was expected of the last run, and what it came to

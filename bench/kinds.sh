@@ -9,7 +9,7 @@ printf 'numbers:\nunits: numbers\nperiod: units numbers\nrate: units numbers\n' 
 mkdir "$work/crates"
 for crate in numbers units period rate; do cp -r "$top/crates/$crate" "$work/crates/"; done
 cd "$work"
-rt check > proved.txt 2>&1 || { tail -n 5 proved.txt; exit 1; }
+rt all check > proved.txt 2>&1 || { tail -n 5 proved.txt; exit 1; }
 failed=0
 for edit in "$top"/bench/kinds/*.edit; do
     file=$(sed -n 's/^file: //p' "$edit")
@@ -23,7 +23,7 @@ text = open(path).read()
 assert text.count(old) == 1, 'the edit does not fit ' + path
 open(path, 'w').write(text.replace(old, new))
 PY
-    if rt check > said.txt 2>&1; then said='NOT REFUSED'; else said=$(grep -m 1 -o 'error\[[a-z-]*\].*' said.txt || echo 'REFUSED BY A PROOF ONLY'); fi
+    if rt all check > said.txt 2>&1; then said='NOT REFUSED'; else said=$(grep -m 1 -o 'error\[[a-z-]*\].*' said.txt || echo 'REFUSED BY A PROOF ONLY'); fi
     case $said in error*) ;; *) failed=1 ;; esac
     printf '%s: %s\n' "$(basename "$edit" .edit)" "$said"
     cp before "$file"

@@ -1,6 +1,6 @@
 /* Plans the table on standard input, prints the plan, and asks a machine for changes of its mode.
  *
- * rt staticlib stellarsnare && cc -O2 -I include examples/change.c target/staticlib/libstellarsnare.a -o target/change
+ * bash tools/staticlib.sh && cc -O2 -I include examples/change.c target/staticlib/libstellarsnare.a -o target/change
  * target/change < examples/printed.csv
  */
 #include <inttypes.h>

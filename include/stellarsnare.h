@@ -1,4 +1,4 @@
-/* Plans of modes and their changes, for firmware on x86-64: link target/staticlib/libstellarsnare.a, which `rt staticlib stellarsnare` makes.
+/* Plans of modes and their changes, for firmware on x86-64: link target/staticlib/libstellarsnare.a, which `bash tools/staticlib.sh` makes.
  *
  * Each function gives whether it was accepted. Whatever is refused leaves words, machine, delay, out and length as they stood. Every text, every
  * buffer and every number has an answer.

@@ -11,7 +11,7 @@ use std::process::ExitCode;
 
 #[cfg(not(product))]
 fn main() -> ExitCode {
-    eprintln!("no libstellarsnare.a: run rt staticlib stellarsnare first, then build again");
+    eprintln!("no libstellarsnare.a: run tools/staticlib.sh first, then build again");
     ExitCode::from(2)
 }
 

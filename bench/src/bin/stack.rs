@@ -2,7 +2,7 @@
 
 #[cfg(not(product))]
 fn main() {
-    eprintln!("no libstellarsnare.a: run rt staticlib stellarsnare first, then build again");
+    eprintln!("no libstellarsnare.a: run tools/staticlib.sh first, then build again");
 }
 
 #[cfg(product)]

@@ -1,14 +1,14 @@
 // A machine on the plan of the table on standard input: the first argument is the starting mode, each further one a request, MODE@CLOCK.
 #![tactic(auto)]
 
-use libc::STDIN_FILENO;
 use units::limits::MOST_BYTES;
 
-fn main() {
+fn main(rt: HostRuntime) {
     let mut text = [0u8; MOST_BYTES + 1];
-    let input = console::read(STDIN_FILENO, b"standard input", &mut text);
+    let mut stdin = rt.stdin();
+    let input = console::read(&rt, &mut stdin, "standard input", &mut text);
     let count = input.count;
     if input.whole {
-        console::ask(&text[..count], 1, os::arg_count());
+        console::ask(&rt, &text[..count], 1, console::arg_count(&rt));
     }
 }

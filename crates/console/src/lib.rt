@@ -1,12 +1,18 @@
 // What the programs read from the operating system, and write to it.
 #![tactic(auto)]
 
-ghost use Rattle.io.specs.Counts.{IsPrefixLen};
+ghost use Rattle.std.specs.Prelude.{IsTrue, ◌<◌, length, take};
+ghost use Rattle.std.specs.Io.KnownBytes.{Consumes, IsAtEnd};
+ghost use Rattle.console.specs.Counts.{IsPrefixLen};
 
 use calls::LINE;
-use libc::{STDERR_FILENO, STDOUT_FILENO};
 use planner::Printing;
 use printer::PRINTED;
+use std::env::FillError;
+use std::fmt::InlineText;
+use std::io::{Error, ErrorKind, Read};
+use std::rt::{Env, Files};
+use std::{fs, str};
 
 // The most bytes of the arguments of a call, each with its 0.
 const MOST_ARGUMENTS: usize = 32768;
@@ -23,22 +29,37 @@ const NOTHING: Input = Input {
     count: 0,
 };
 
+// Tells on standard error what failed and why, in the system's words, without the error's number.
+fn tell(rt: &impl Eprint, what: &str, error: Error) {
+    let text = InlineText::<128>::of(error);
+    let words = text.as_str();
+    let why = match words.split_once(" (os error ") {
+        Some((front, _)) => front,
+        None => words,
+    };
+    let _ = eprintln!(rt; "{what}: {why}");
+}
+
 // Reads until the end of the input or of the buffer. A read that fails is told on standard error.
-pub fn read(file: i32, name: &[u8], buffer: &mut [u8]) -> Input
-    ensures { IsPrefixLen result.count buffer.new }
+pub fn read<R: Read>(rt: &impl Eprint, file: &mut R, name: &str, buffer: &mut [u8]) -> Input
+    ensures front { IsPrefixLen result.count buffer.new }
+    ensures bytes { IsTrue result.whole → Consumes (R.remaining file.old) (R.remaining file.new) (take result.count buffer.new) }
+    ensures end { IsTrue result.whole → result.count < length buffer.new → IsAtEnd (R.remaining file.new) }
 {
     let mut at: usize = 0;
     while at < buffer.len() {
-        let got = libc::read(file, &mut buffer[at..]);
-        if got < 0 {
-            os::fail(name);
-            return NOTHING;
+        match file.read(&mut buffer[at..]) {
+            Ok(more) => {
+                if more == 0 {
+                    break;
+                }
+                at += more;
+            }
+            Err(error) => {
+                tell(rt, name, error);
+                return NOTHING;
+            }
         }
-        let more = io::count(got, &buffer[at..]);
-        if more == 0 {
-            break;
-        }
-        at += more;
     }
     Input {
         whole: true,
@@ -46,22 +67,39 @@ pub fn read(file: i32, name: &[u8], buffer: &mut [u8]) -> Input
     }
 }
 
+// Reads the file that a path names, as `read` does.
+pub fn read_file(rt: &(impl Files + Eprint), path: &[u8], buffer: &mut [u8]) -> Input
+    ensures { IsPrefixLen result.count buffer.new }
+{
+    let Ok(name) = str::from_utf8(path) else {
+        tell(rt, "a path", Error::from(ErrorKind::InvalidFilename));
+        return NOTHING;
+    };
+    match fs::open(rt, name) {
+        Ok(mut file) => read(rt, &mut file, name, buffer),
+        Err(error) => {
+            tell(rt, name, error);
+            NOTHING
+        }
+    }
+}
+
 // Writes on standard output. What could not be written is told on standard error.
-pub fn write(bytes: &[u8]) {
-    if !io::write_all(STDOUT_FILENO, bytes) {
-        os::fail(b"standard output");
+pub fn write(rt: &(impl Print + Eprint), bytes: &[u8]) {
+    if let Err(error) = rt.write_all(bytes) {
+        tell(rt, "standard output", error);
     }
 }
 
 // The arguments of the program from one up to another, each ended by a 0.
-fn gather(first: usize, end: usize, buffer: &mut [u8]) -> Input
+fn gather(rt: &impl Env, first: usize, end: usize, buffer: &mut [u8]) -> Input
     ensures { IsPrefixLen result.count buffer.new }
 {
     let mut at: usize = 0;
     for i in first..end {
-        at += os::arg(i, &mut buffer[at..]);
-        if os::errno() != 0 {
-            return NOTHING;
+        match rt.arg(i, &mut buffer[at..]) {
+            Ok(n) => at += n,
+            Err(_) => return NOTHING,
         }
         if at == buffer.len() {
             return NOTHING;
@@ -76,31 +114,41 @@ fn gather(first: usize, end: usize, buffer: &mut [u8]) -> Input
 }
 
 // Prints the plan of a text, or its refusal.
-pub fn plan(text: &[u8]) {
+pub fn plan(rt: &(impl Print + Eprint), text: &[u8]) {
     let mut out = [0u8; PRINTED];
     let Printing::Printed(n) = calls::plan(text, &mut out) else {
         return;
     };
-    write(&out[..n]);
+    write(rt, &out[..n]);
 }
 
 // Prints the answers to some arguments, on the plan of a text.
-fn answer(text: &[u8], arguments: &[u8]) {
+fn answer(rt: &(impl Print + Eprint), text: &[u8], arguments: &[u8]) {
     let mut out = [0u8; LINE * (MOST_ARGUMENTS + 1)];
     let Printing::Printed(n) = calls::ask(text, arguments, &mut out) else {
         return;
     };
-    write(&out[..n]);
+    write(rt, &out[..n]);
 }
 
 // Prints the answers to the arguments of the program from one up to another, on the plan of a text.
-pub fn ask(text: &[u8], first: usize, end: usize) {
+pub fn ask(rt: &(impl Env + Print + Eprint), text: &[u8], first: usize, end: usize) {
     let mut arguments = [0u8; MOST_ARGUMENTS];
-    let gathered = gather(first, end, &mut arguments);
+    let gathered = gather(rt, first, end, &mut arguments);
     let count = gathered.count;
     if gathered.whole {
-        answer(text, &arguments[..count]);
+        answer(rt, text, &arguments[..count]);
     } else {
-        io::write_all(STDERR_FILENO, b"arguments: too long\n");
+        let _ = rt.eprintln("arguments: too long");
     }
+}
+
+// How many arguments the program has, its own name among them.
+pub fn arg_count(rt: &impl Env) -> usize {
+    for i in 0..usize::MAX {
+        if matches!(rt.arg(i, &mut []), Err(FillError::NotPresent)) {
+            return i;
+        }
+    }
+    usize::MAX
 }

@@ -1,4 +1,5 @@
 // The face for firmware: plans, machines and requests as plain numbers, for a caller in C.
+// The crate `stellarsnare_c` exports these functions.
 #![tactic(auto)]
 
 ghost use Rattle.std.specs.Prelude.{◌≡◌, true, false};
@@ -35,8 +36,7 @@ fn three(machine: Machine) -> [u64; 3]
 }
 
 // Plans the table of a text into the words.
-#[unsafe(no_mangle)]
-pub extern "C" fn stellarsnare_plan(text: &[u8], words: &mut [u64], refusal: &mut [u64; 5]) -> bool
+pub fn stellarsnare_plan(text: &[u8], words: &mut [u64], refusal: &mut [u64; 5]) -> bool
     ensures { PlanTold text.now words.old result words.new refusal.new }
 {
     let answer = planner::plan(text, words);
@@ -47,8 +47,7 @@ pub extern "C" fn stellarsnare_plan(text: &[u8], words: &mut [u64], refusal: &mu
 }
 
 // Begins a machine, at tick 0 in the mode with this number; 0 stands for the lowest listed mode.
-#[unsafe(no_mangle)]
-pub extern "C" fn stellarsnare_start(
+pub fn stellarsnare_start(
     words: &[u64],
     mode: u64,
     machine: &mut [u64; 3],
@@ -68,8 +67,7 @@ pub extern "C" fn stellarsnare_start(
 }
 
 // Answers a machine's request for the mode with this number at a tick.
-#[unsafe(no_mangle)]
-pub extern "C" fn stellarsnare_request(
+pub fn stellarsnare_request(
     words: &[u64],
     machine: &mut [u64; 3],
     mode: u64,
@@ -98,8 +96,7 @@ pub extern "C" fn stellarsnare_request(
 }
 
 // Prints the plan that the words hold.
-#[unsafe(no_mangle)]
-pub extern "C" fn stellarsnare_print(
+pub fn stellarsnare_print(
     words: &[u64],
     out: &mut [u8],
     length: &mut usize,

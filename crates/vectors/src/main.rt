@@ -2,6 +2,7 @@
 // next table are requests, and otherwise the table's plan is printed.
 #![tactic(auto)]
 
+use std::rt::{Env, Files};
 use units::limits::MOST_BYTES;
 
 fn is_table(word: &[u8]) -> bool {
@@ -14,17 +15,19 @@ fn is_table(word: &[u8]) -> bool {
 }
 
 // Whether argument i names a table.
-fn table_at(i: usize) -> bool {
+fn table_at(rt: &impl Env, i: usize) -> bool {
     let mut word = [0u8; 256];
-    let k = os::arg(i, &mut word);
+    let Ok(k) = rt.arg(i, &mut word) else {
+        return false;
+    };
     is_table(&word[..k])
 }
 
 // The place of the first argument from i on that names a table; the end where there is none.
-fn next_table(i: usize) -> usize {
-    let end = os::arg_count();
+fn next_table(rt: &impl Env, i: usize) -> usize {
+    let end = console::arg_count(rt);
     for k in i..end {
-        if table_at(k) {
+        if table_at(rt, k) {
             return k;
         }
     }
@@ -32,31 +35,31 @@ fn next_table(i: usize) -> usize {
 }
 
 // The plan of the table that argument i names, or the call on it.
-fn answer(i: usize, first: usize) {
+fn answer(rt: &(impl Env + Files + Print + Eprint), i: usize, first: usize) {
     let mut path = [0u8; 256];
-    let k = os::arg(i, &mut path);
-    console::write(&path[..k]);
-    console::write(b"\r\n");
-    let file = os::open_read(&path[..k]);
+    let Ok(k) = rt.arg(i, &mut path) else {
+        return;
+    };
+    console::write(rt, &path[..k]);
+    console::write(rt, b"\r\n");
     let mut text = [0u8; MOST_BYTES + 1];
-    let input = console::read(file, &path[..k], &mut text);
-    libc::close(file);
+    let input = console::read_file(rt, &path[..k], &mut text);
     if !input.whole {
         return;
     }
     let count = input.count;
-    let end = next_table(first);
+    let end = next_table(rt, first);
     if first == end {
-        console::plan(&text[..count]);
+        console::plan(rt, &text[..count]);
     } else {
-        console::ask(&text[..count], first, end);
+        console::ask(rt, &text[..count], first, end);
     }
 }
 
-fn main() {
-    for i in 1..os::arg_count() {
-        if table_at(i) {
-            answer(i, i + 1);
+fn main(rt: HostRuntime) {
+    for i in 1..console::arg_count(&rt) {
+        if table_at(&rt, i) {
+            answer(&rt, i, i + 1);
         }
     }
 }
