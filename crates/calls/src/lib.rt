@@ -11,12 +11,12 @@ ghost use Rattle.calls.specs.Prints.{AskPrints};
 ghost use Rattle.calls.specs.Fills.{Enough, Lays, PlanFills, AskFills};
 
 use arguments::{end_of, first_bad};
-use rfc4180::decimal::{GREATEST, Number, number_of};
 use layout::WORDS;
 pub use lines::LINE;
 use lines::{bad, refused};
 use planner::{Answer, Printing};
 use printer::PRINTED;
+use rfc4180::decimal::{GREATEST, Number, number_of};
 use terms::refusal::{NO_PLAN, Place, Refusal};
 
 fn no_room() -> Refusal

@@ -5,8 +5,8 @@ ghost use Rattle.printer.specs.Printed.{refusal_text};
 ghost use Rattle.calls.specs.Prints.{line_of, machine_text, accepted_text};
 ghost use Rattle.calls.specs.Fills.{LINE as LINE_LIMIT, LaysLine};
 
-use rfc4180::writing::{crlf, field, word};
 use machine::Machine;
+use rfc4180::writing::{crlf, field, word};
 use terms::refusal::Refusal;
 use units::Tick;
 
