@@ -1,2 +1,3 @@
 -- What the proofs lean on.
+pub mod Laws
 mod Settled

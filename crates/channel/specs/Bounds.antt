@@ -22,10 +22,10 @@ use Rattle.channel.specs.declared.End.{End}
 use Rattle.channel.specs.declared.pace.Pace.{Pace}
 use Rattle.channel.specs.declared.waits.Mark.{Mark}
 use Rattle.channel.specs.declared.claims.Hold.{Hold}
-use Rattle.channel.specs.Flow.{rates_of, IsSize, Proper, Paced, cycle_tokens, cycle_ticks}
+use Rattle.channel.specs.Flow.{rates_of, Proper, Paced, cycle_tokens, cycle_ticks}
 use Rattle.channel.specs.Phases.{step_of, pace_of, give_of, give_at, take_of, take_at, wait_of, latest_of, start_of, claiming_at, back_at, claim_of, greatest_of, present, size_of, claiming_of, back_of, cycles_of}
 use Rattle.channel.specs.Words.{PHASES_WORDS, phases_over, mark_words, mark_of, mark_in, hold_words, hold_of, hold_in, Noted, phase_put, phases_put}
-use Rattle.channel.specs.Laws.{rate_at, tokens_most, cycle_p, cycle_c, in_step, claimed_with, size_most}
+use Rattle.channel.specs.Laws.{rate_at, tokens_most, cycle_p, cycle_c, in_step}
 
 -- an end of its parts
 abbrev pub end_of : List ℕ → Tick → ℕ → End
@@ -219,7 +219,7 @@ size_from p sp c sc w l e g =
 
 -- sizes are no greater
 module _ (p : End) (sp : Tick) (c : End) (sc : Tick) (w : Paced p c) (b : sp.0 ≤ MOST_START.0) (b' : sc.0 ≤ MOST_START.0) where
-  size_few : (size_of 0 p sp c sc).0 ≤ MOST_SIZE.0
+  pub size_few : (size_of 0 p sp c sc).0 ≤ MOST_SIZE.0
   unfolding size_of
   size_few = max-le zero-le (most_within _ _ c.phases (λ f hf. most_within _ _ p.phases (λ s hs. le_trans (sub-le _ _) (few f s hf hs))))
     where
@@ -233,8 +233,3 @@ module _ (p : End) (sp : Tick) (c : End) (sc : Tick) (w : Paced p c) (b : sp.0 �
             (claiming_early p s (brief_p p c w) hs sp b).tokens,
             (back_few pace _ _ (pace_long p sp c w b) (back_early c f (brief_c p c w) hf sc b')).more,
           )
-
-  pub size_within : (r : Token) → IsSize p sp c sc r → r.0 ≤ MOST_SIZE.0
-  size_within r is =
-      let (t, z) = is.holds in
-      le_trans (size_most p c w 0 sp sc t.0 r.0 ((claimed_with p sp c sc t r).0 z)) size_few

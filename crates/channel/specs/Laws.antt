@@ -1,27 +1,24 @@
--- Laws of one channel: the least start and the size are those that the model reckons; later consumers and earlier producers stay fed; neither is ever far.
+-- Laws of one channel with some tokens present at the start: what the model reckons is its least start, which is never far, and its size.
 use Rattle.std.specs.Prelude.{◌≡◌, refl, Bool, true, false, cond, ◌↔◌, eqb, length, get_or}
-use Rattle.std.proofs.Common.{sym, subst, ◌∙◌, le_refl, le_of_lt, le_of_eq, lt_irrefl, le-mul_of_pos_right, pos_of_ne-zero, le_antisymm, zero-lt-suc, eqb-true, length-take-le, get_or-take}
+use Rattle.std.proofs.Common.{sym, subst, ◌∙◌, le_refl, le_of_lt, le_of_eq, le-mul_of_pos_right, pos_of_ne-zero, zero-lt-suc, eqb-true, length-take-le, get_or-take}
 use Rattle.std.proofs.Math.Path.{ap}
 use Prim.Native.Nat.{ℕ, zero, suc, ◌+◌, ◌-◌, ◌*◌, ◌/◌, ◌≤◌, ◌<◌, max, zero-le}
 use Rattle.std.proofs.Math.Nat.{le_trans, mul-le-mul_right, lt-div-mul-add, div-le_of_le-mul, le-max_left, le-max_right}
 use native.Mathlib.Omega.{arith}
 use Rattle.std.proofs.Math.Decide.{dec_le}
 use Rattle.std.proofs.lemmas.Bool.{eqb-false}
-use Rattle.numbers.specs.Extreme.{Least, ExactlyFirst, most_of, most_above, most_at, most_within}
+use Rattle.numbers.specs.Extreme.{ExactlyFirst, most_of, most_above, most_at, most_within}
 use Rattle.numbers.specs.Reckoned.{gcd_of_law}
 use Rattle.numbers.specs.Sum.{sum, sum_more, sum_most, sum_next}
 use Rattle.units.specs.declared.Tick.{Tick}
 use Rattle.units.specs.declared.Token.{Token}
 use Rattle.units.specs.Ticks.{tick}
-use Rattle.units.specs.Tokens.{token}
 use Rattle.units.specs.Limits.{MOST_RATE, ITERATION_LIMIT}
-use Rattle.units.specs.Firings.{firing}
-use Rattle.period.specs.Period.{begins_at}
-use Rattle.rate.specs.Rate.{rate_of, tokens_of, rate_in, rate_cycle}
+use Rattle.rate.specs.Rate.{rate_of, rate_in, rate_cycle}
 use Rattle.channel.specs.declared.End.{End}
-use Rattle.channel.specs.Flow.{rates_of, cycle_tokens, cycle_ticks, Fed, Claimed, IsSize, Proper, Paced}
+use Rattle.channel.specs.Flow.{rates_of, cycle_tokens, cycle_ticks, Proper, Paced}
 use Rattle.channel.specs.Cycles.{Matched, matched, factor_pos}
-use Rattle.channel.specs.Pairs.{at_most, FedBy, ClaimedBy, wait_for, claim_for, beyond_quotient, ended_some, wait_needed, wait_enough, claim_met, claim_most, claim_some}
+use Rattle.channel.specs.Pairs.{FedBy, ClaimedBy, wait_for, claim_for, beyond_quotient, wait_needed, wait_enough, claim_met, claim_most}
 use Rattle.channel.specs.Phases.{step_of, pace_of, give_at, take_at, wait_of, start_of, claiming_at, back_at, claim_of, cycles_of, size_of, present}
 
 -- the rates of an end, one for each phase, go round
@@ -62,19 +59,6 @@ FedWith x p sp c sc = FedBy (rate_of (rates_of p)) (rate_of (rates_of c)) p.peri
 
 abbrev pub ClaimedWith : ℕ → End → Tick → End → Tick → ℕ → ℕ → Type 0
 ClaimedWith x p sp c sc = ClaimedBy (rate_of (rates_of p)) (rate_of (rates_of c)) p.period.0 c.period.0 x sp.0 sc.0
-
-module _ (p : End) (sp : Tick) (c : End) (sc : Tick) where
-  pub fed_with : Fed p sp c sc ↔ FedWith 0 p sp c sc
-  fed_with = (
-    (λ fed n pos e h. omega (arith, fed n (omega (arith, pos)) (tokens_of (rates_of p) (firing e)) (firing e, h, refl))),
-    (λ fed n pos v (e, h, made). omega (arith, fed n (omega (arith, pos)) e.0 h, ap (λ (t : Token). t.0) made)),
-  )
-
-  pub claimed_with : (t : Tick) (v : Token) → Claimed p sp c sc t v ↔ ClaimedWith 0 p sp c sc t.0 v.0
-  claimed_with t v = (
-    (λ (b, e, begun, ended, claimed). record { b = b.0; e = e.0; begun = begun; ended = ended; claimed = omega (arith, claimed) }),
-    (λ w. (firing w.b, firing w.e, w.begun, w.ended, omega (arith, w.claimed))),
-  )
 
 module _ (p c : End) (w : Paced p c) where
   made_ticks : w.makers * (cycle_ticks p).0 ≡ w.iteration.0
@@ -219,52 +203,3 @@ module _ (p c : End) (w : Paced p c) where
             let (t, h) = claim_met rp rc p.phases c.phases p.period.0 c.period.0 (rates_round p w.producer) (rates_round c w.consumer)
             w.producer.some w.consumer.some period_p period_c x K sp.0 _ _ (in_step K) sc.0 ticks_more f s hs in
             (t, λ v z. omega (arith, l, ef, es, claim_is f s hs, h v z))
-
-  -- where every firing is fed, some number of places is claimed at every tick
-  pub claimed_some : (sp sc : Tick) → Fed p sp c sc → (t : Tick) → (v : Token) × Claimed p sp c sc t v
-  claimed_some sp sc fed t =
-      let (v, z) = claim_some rp rc p.phases c.phases p.period.0 c.period.0 (rates_round p w.producer) (rates_round c w.consumer)
-      w.producer.some w.consumer.some period_p period_c 0 1 sp.0 _ _ (in_step 1) sc.0 ((fed_with p sp c sc).0 fed) t.0 in
-      (token v, (claimed_with p sp c sc t (token v)).1 z)
-
-  -- the least start is that of the model, and never more than a cycle of each end after the producer's
-  pub start_least : (sp : Tick) → Least (λ s. Fed p sp c (tick s)) (start_of 0 p sp c).0
-  start_least sp =
-      record {
-        holds = (fed_with p sp c (start_of 0 p sp c)).1 ((start_iff 0 sp (start_of 0 p sp c).0).1 (le_refl _));
-        least = λ s fed. (start_iff 0 sp s).0 ((fed_with p sp c (tick s)).0 fed);
-      }
-
-  pub start_within : (sp : Tick) (r : ℕ) → Least (λ s. Fed p sp c (tick s)) r → r ≤ sp.0 + (cycle_ticks p).0 + (cycle_ticks c).0
-  start_within sp r l = le_trans (l.least (start_of 0 p sp c).0 (start_least sp).holds) (start_near 0 sp)
-
-  -- the size is that of the model
-  pub size_greatest : (sp sc : Tick) → Fed p sp c sc → IsSize p sp c sc (size_of 0 p sp c sc)
-  size_greatest sp sc fed =
-      let (t, h) = size_met 0 sp sc in
-      let (v, z) = claimed_some sp sc fed (tick t) in
-      let z' = (claimed_with p sp c sc (tick t) v).0 z in
-      record {
-        holds = (tick t, subst (λ (n : ℕ). Claimed p sp c sc (tick t) (token n)) (le_antisymm (size_most 0 sp sc t v.0 z') (h v.0 z')) z);
-        greatest = λ n (t, z). size_most 0 sp sc t.0 n ((claimed_with p sp c sc t (token n)).0 z);
-      }
-
--- a consumer that starts no earlier stays fed, by a producer that starts no later
-module _ (p : End) (c : End) (pos : 0 < p.period.0) where
-  fed_wider : (sp sp' sc sc' : Tick) → sp.0 ≤ sp'.0 → sc.0 ≤ sc'.0 → Fed p sp' c sc → Fed p sp c sc'
-  fed_wider sp sp' sc sc' hp hc fed n takes v (e, ended, made) =
-      let (e₀, ended₀) = ended_some sp' p.period (begins_at sc c.period (firing n)) pos in
-      let more : e₀.0 ≤ e.0 =
-      at_most (λ (b : e.0 < e₀.0). lt_irrefl e.0 ((ended e.0).1 (omega (arith, hp, hc, (ended₀ e.0).0 b)))) in
-      omega (
-        arith,
-        fed n takes (tokens_of (rates_of p) e₀) (e₀, ended₀, refl),
-        sum_more (rate_of (rates_of p)) e₀.0 e.0 more,
-        ap (λ (t : Token). t.0) made,
-      )
-
-  pub fed_later : (sp sc sc' : Tick) → sc.0 ≤ sc'.0 → Fed p sp c sc → Fed p sp c sc'
-  fed_later sp sc sc' h = fed_wider sp sp sc sc' (le_refl sp.0) h
-
-  pub fed_earlier : (sp sp' sc : Tick) → sp.0 ≤ sp'.0 → Fed p sp' c sc → Fed p sp c sc
-  fed_earlier sp sp' sc h = fed_wider sp sp' sc sc h (le_refl sc.0)

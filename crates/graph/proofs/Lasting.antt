@@ -28,7 +28,8 @@ use Rattle.period.specs.declared.Firings.TheVariants.{Are, Above}
 use Rattle.period.specs.declared.Length.{Length}
 use Rattle.period.specs.declared.Length.TheVariants.{Is, Above as TooLong}
 use Rattle.period.specs.Period.{work_of, work_most, period_of, CommonWithin, IterationIs, IterationWithin}
-use Rattle.period.specs.Reckoned.{common_of, common_of_law, common_is, length_of as reckoned_of, iteration_of_law}
+use Rattle.period.specs.Reckoned.{common_of, common_of_law, common_is, length_of as reckoned_of}
+use Rattle.period.proofs.Lengths.{iteration_of_law}
 use Rattle.tables.specs.declared.Actor.{Actor}
 use Rattle.tables.specs.Shape.{Mode, no_actor, actor_at, Active}
 use Rattle.tables.specs.Proper.{ProperMode}

@@ -19,7 +19,8 @@ use Rattle.units.specs.Limits.{ACTORS}
 use Rattle.units.specs.Tokens.{times_tokens}
 use Rattle.rate.specs.declared.Meeting.{Meeting}
 use Rattle.rate.specs.Rate.{Meets}
-use Rattle.rate.specs.Reckoned.{meet_of, meet_of_law}
+use Rattle.rate.specs.Reckoned.{meet_of}
+use Rattle.rate.proofs.Meetings.{meet_of_law}
 use Rattle.tables.specs.Shape.{Mode, channel_at, Active}
 use Rattle.tables.specs.Proper.{ProperMode}
 use Rattle.graph.specs.declared.balance.Counts.{Counts}

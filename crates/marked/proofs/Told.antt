@@ -46,7 +46,7 @@ module _ {t : Table} {w : Plan} {words : List ℕ} (l : Leaves t w words) where
   answered m (q ∷ qs) h = λ a x.
       let e = answers_unique x (answer_to_law m q) in (
         ap (λ (a : Answer). a.reply) e ∙ h.0,
-        subst (λ (n : Machine). WhenAsked words n qs) (sym (ap (λ (a : Answer). a.machine) e)) (answered _ qs h.1),
+        subst (λ (n : Machine). WhenAsked words n qs) (sym (ap (λ (a : Answer). a.machine) e)) (answered (answer_to (plan_of t w) m q).machine qs h.1),
       )
 
   -- a machine that begins in mode n

@@ -1,7 +1,8 @@
 -- Each public function's statement admits one answer only.
 use mathlib.Core.Path.{sym, ◌∙◌}
 use Rattle.numbers.proofs.Settles.{Settles}
-use Rattle.period.specs.Period.{within_unique, common_unique}
+use Rattle.period.specs.Period.{common_unique}
+use Rattle.period.proofs.Lengths.{within_unique}
 use Rattle.period.proofs.begins.Kinds as begins_kinds
 use Rattle.period.proofs.begins.Reads as begins
 use Rattle.period.proofs.ends.Kinds as ends_kinds

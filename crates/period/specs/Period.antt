@@ -68,7 +68,7 @@ pub work_most : {wcet : Tick} {q : Firing} → wcet.0 ≤ MOST_WCET.0 → q.0 �
 work_most h g = omega (arith, mul-le-mul g h)
 
 pub work_fits : {wcet : Tick} {q : Firing} → wcet.0 ≤ MOST_WCET.0 → q.0 ≤ MOST_COUNTED.0 → (work_of wcet q).0 < 2 ^ 64
-work_fits h g = product_fits (le_trans (work_most h g) products.work)
+work_fits h g = product_fits (le_trans (omega (arith, mul-le-mul h g)) products.work)
 
 -- the counts, where the start lies ahead and where it has passed
 module _ (start period by : Tick) where
@@ -94,12 +94,6 @@ module _ (start period by : Tick) where
 -- an iteration has one length
 pub iteration_unique : (l : Firing) (w : Tick) {g h : Tick} → IterationIs l w g → IterationIs l w h → g ≡ h
 iteration_unique l w (r, p, e) (s, q, f) = λ i. record { 0 = (e ∙ ap (λ (n : ℕ). l.0 * n) (least_unique _ p q) ∙ sym f) i }
-
-pub within_unique : (l : Firing) (w limit : Tick) (x y : Length) → IterationWithin l w limit x → IterationWithin l w limit y → x ≡ y
-within_unique l w limit (Is g) (Is h) p q = ap Is (iteration_unique l w p.0 q.0)
-within_unique l w limit (Is g) TooLong p q = absurd (not-le_of_lt (q g p.0) p.1)
-within_unique l w limit TooLong (Is h) p q = absurd (not-le_of_lt (p h q.0) q.1)
-within_unique l w limit TooLong TooLong p q = refl
 
 pub common_unique : (a b limit : Firing) (x y : Firings) → CommonWithin a b limit x → CommonWithin a b limit y → x ≡ y
 common_unique a b limit (Are l) (Are m) p q = λ i. Are (firing (lcm_unique p.0 q.0 i))

@@ -1,8 +1,8 @@
 -- Model: the numbers of the period rule that are stated by what they are, as they are reckoned.
 use Rattle.std.specs.Prelude.{◌≡◌, refl, Bool, true, false, cond, ℕ, ◌*◌, ◌<◌, leb}
-use Rattle.std.proofs.Common.{subst, lt_of_lt_of_le, le_of_eq, leb-true, leb-false}
+use Rattle.std.proofs.Common.{lt_of_lt_of_le, le_of_eq, leb-true, leb-false}
 use Rattle.numbers.specs.Multiples.{lcm_unique}
-use Rattle.numbers.specs.Quotient.{rounded_of, rounded_of_law}
+use Rattle.numbers.specs.Quotient.{rounded_of}
 use Rattle.numbers.specs.Reckoned.{lcm_of, lcm_of_law}
 use Rattle.units.specs.declared.Tick.{Tick}
 use Rattle.units.specs.declared.Firing.{Firing}
@@ -12,7 +12,7 @@ use Rattle.period.specs.declared.Firings.{Firings}
 use Rattle.period.specs.declared.Firings.TheVariants.{Are, Above}
 use Rattle.period.specs.declared.Length.{Length}
 use Rattle.period.specs.declared.Length.TheVariants.{Is, Above as TooLong}
-use Rattle.period.specs.Period.{CommonWithin, IterationWithin, common_unique, within_unique, iteration_unique}
+use Rattle.period.specs.Period.{CommonWithin, common_unique}
 
 abbrev pub common_of : Firing → Firing → Firing → Firings
 common_of a b limit = cond (leb (lcm_of a.0 b.0) limit.0) (Are (firing (lcm_of a.0 b.0))) Above
@@ -35,15 +35,3 @@ length_of l w = tick (l.0 * rounded_of w.0 l.0)
 
 abbrev pub iteration_of : Firing → Tick → Tick → Length
 iteration_of l w limit = cond (leb (length_of l w).0 limit.0) (Is (length_of l w)) TooLong
-
-pub iteration_of_law : (l : Firing) (w limit : Tick) → 0 < l.0 → IterationWithin l w limit (iteration_of l w limit)
-iteration_of_law l w limit pos = go (leb (length_of l w).0 limit.0) refl
-  where
-    go : (x : Bool) → leb (length_of l w).0 limit.0 ≡ x → IterationWithin l w limit (cond x (Is (length_of l w)) TooLong)
-    go true e = ((rounded_of w.0 l.0, rounded_of_law w.0 l.0 pos, refl), leb-true _ _ e)
-    go false e = λ h p.
-        subst (λ (t : Tick). limit.0 < t.0)
-        (iteration_unique l w {g = length_of l w} {h = h} (rounded_of w.0 l.0, rounded_of_law w.0 l.0 pos, refl) p) (leb-false _ _ e)
-
-pub iteration_is : (l : Firing) (w limit : Tick) (r : Length) → 0 < l.0 → IterationWithin l w limit r → r ≡ iteration_of l w limit
-iteration_is l w limit r pos p = within_unique l w limit r (iteration_of l w limit) p (iteration_of_law l w limit pos)

@@ -30,7 +30,7 @@ use Rattle.graph.specs.Balance.{firings_of}
 use Rattle.graph.specs.Judged.{of_actors}
 use Rattle.graph.specs.Laws.{iteration_pos, firings_divide}
 use Rattle.channel.specs.Flow.{Paced}
-use Rattle.channel.specs.Bounds.{size_within}
+use Rattle.channel.proofs.Laws.{size_within}
 use Rattle.schedule.specs.Starts.{producer_of, consumer_of}
 use Rattle.schedule.specs.Scheduled.{of_channels, tokens_on, Sizes}
 use Rattle.schedule.proofs.Sound.{channel_paced}

@@ -20,7 +20,8 @@ use Rattle.tables.specs.declared.Channel.{Channel}
 use Rattle.tables.specs.Shape.{Mode, channel_at}
 use Rattle.graph.specs.Judged.{of_actors}
 use Rattle.channel.specs.Flow.{Fed}
-use Rattle.channel.specs.Laws.{cycle_p, cycle_c, period_p, start_within, fed_later, fed_earlier}
+use Rattle.channel.specs.Laws.{cycle_p, cycle_c, period_p}
+use Rattle.channel.proofs.Laws.{start_within, fed_later, fed_earlier}
 use Rattle.schedule.specs.Starts.{producer_of, consumer_of, FedOn, AllFed, Starts}
 use Rattle.schedule.specs.Reached.{start_at, to_depth, Asked, Ready, Reached, Fits}
 

@@ -22,7 +22,7 @@ use Rattle.tables.specs.Proper.{ProperMode}
 use Rattle.graph.specs.declared.Verdict.TheVariants.{Sound as IsSound}
 use Rattle.graph.specs.declared.Judgement.{Judgement}
 use Rattle.graph.specs.Judged.{Judged}
-use Rattle.channel.specs.Laws.{start_least, size_greatest}
+use Rattle.channel.proofs.Laws.{start_least, size_greatest}
 use Rattle.schedule.specs.Starts.{producer_of, consumer_of, Late}
 use Rattle.schedule.specs.Scheduled.{SizeOn, Sizes, Scheduled, late, on_time}
 use Rattle.schedule.specs.Reached.{start_at, to_depth, Ready, Reached, Fits}

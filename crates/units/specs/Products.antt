@@ -64,7 +64,7 @@ products =
     }
 
 pub product_fits : {n : ℕ} → n ≤ MOST_SHARED → n < 2 ^ 64
-product_fits h = omega (arith, h, products.two)
+product_fits h = omega (arith, h)
 
 -- with an offset and a start the tick at which a mode is left is within 64 bits
 pub left_fits : MOST_LEFT.0 + MOST_START.0 + MOST_START.0 < 2 ^ 64

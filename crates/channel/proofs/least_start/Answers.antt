@@ -5,7 +5,7 @@ use Rattle.numbers.specs.Extreme.{Least}
 use Rattle.units.specs.declared.Tick.{Tick}
 use Rattle.units.specs.Ticks.{tick}
 use Rattle.channel.specs.Flow.{Fed}
-use Rattle.channel.specs.Laws.{start_least}
+use Rattle.channel.proofs.Laws.{start_least}
 use Rattle.channel.specs.Bounds.{Short, brief_p, brief_c, pace_short, gives_ready, start_from}
 use Rattle.channel.proofs.least_start.Goals.{After-pace_of-pace}
 use Rattle.channel.proofs.least_start.Goals as goal

@@ -5,7 +5,8 @@ use native.Mathlib.Omega.{arith}
 use Rattle.units.specs.declared.Tick.{Tick}
 use Rattle.units.specs.declared.Token.{Token}
 use Rattle.channel.specs.Flow.{IsSize}
-use Rattle.channel.specs.Laws.{cycle_pos, size_greatest}
+use Rattle.channel.specs.Laws.{cycle_pos}
+use Rattle.channel.proofs.Laws.{size_greatest}
 use Rattle.channel.specs.Phases.{pace_of, cycles_of}
 use Rattle.channel.specs.Bounds.{Adds, Long, brief_p, brief_c, cycles_add, pace_long, claims_ready, size_from}
 use Rattle.channel.proofs.size.Goals.{After-pace_of-pace, After-per-cycles}

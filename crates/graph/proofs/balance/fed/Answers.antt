@@ -7,7 +7,8 @@ use native.Mathlib.Omega.{arith}
 use lib.ListN.{get_or}
 use Rattle.numbers.specs.Reckoned.{gcd_of}
 use Rattle.rate.specs.declared.Meeting.{Meeting}
-use Rattle.rate.specs.Reckoned.{meet_of, meet_is}
+use Rattle.rate.specs.Reckoned.{meet_of}
+use Rattle.rate.proofs.Meetings.{meet_is}
 use Rattle.graph.specs.Counts.{with_count, met_by, fed_of}
 use Rattle.graph.proofs.Flows.{made_fits, fed_met, met_over, met_new}
 use Rattle.graph.proofs.balance.fed.Goals.{After-meet-meeting, After-scaled-next}

@@ -6,7 +6,8 @@ use Rattle.units.specs.declared.Firing.{Firing}
 use Rattle.units.specs.Limits.{ACTORS, ITERATION_LIMIT}
 use Rattle.period.specs.declared.Firings.{Firings}
 use Rattle.period.specs.declared.Firings.TheVariants.{Are, Above}
-use Rattle.period.specs.Reckoned.{iteration_of, iteration_is}
+use Rattle.period.specs.Reckoned.{iteration_of}
+use Rattle.period.proofs.Lengths.{iteration_is}
 use Rattle.graph.specs.Lengths.{most_from, common_from, length_by}
 use Rattle.graph.proofs.Lasting.{common_pos}
 use Rattle.graph.proofs.iteration.length_of.Goals.{After-most_of}

@@ -1,5 +1,4 @@
 -- tables::homes::housed meets its contract. The invariant: the homes of the actors below i are set.
-use borrow.Author.Tests.{eq-eqb, ne_eqb}
 use mathlib.Core.Path.{sym, ap, ◌∙◌}
 use native.Mathlib.Omega.{arith}
 use Rattle.numbers.specs.Filled.{filled_none, filled_set, filled_all}
@@ -8,14 +7,14 @@ use Rattle.units.specs.Limits.{ACTORS}
 use Rattle.tables.specs.declared.Actor.{Actor}
 use Rattle.tables.specs.Shape.{no_actor}
 use Rattle.tables.specs.Memory.{actor_in}
-use Rattle.tables.proofs.homes.housed.Goals.{else-home-eq0, then-home-eq0}
+use Rattle.std.proofs.lemmas.Bool.Decides.{nat_tests}
 use Rattle.tables.proofs.homes.housed.Goals as goal
 
 pub loop-i-preserved : goal.loop-i-preserved
 loop-i-preserved c =
     let a = c.args in let actor = ap (λ (x : Actor). x.processor) (c.actor_at-actor.ensures ∙ sym (get_or_tab ACTORS (actor_in a.front.now) c.loop-i.i no_actor (omega arith))) in
     filled_set ACTORS _ 0 0 _ c.loop-i.i _ (omega arith)
-    (elim c.if-home-eq0.branch [ then-home-eq0 w ↦ rw (eq-eqb _ _ w.if-home-eq0.true) (w.home-is ∙ actor) | else-home-eq0 w ↦ rw (ne_eqb _ _ w.if-home-eq0.false) w.home-is ]) c.loop-i.invariant
+    (grind (arith, nat_tests, actor)) c.loop-i.invariant
 
 pub loop-i-init : goal.loop-i-init
 loop-i-init c = filled_none ACTORS _ 0 0

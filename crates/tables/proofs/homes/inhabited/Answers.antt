@@ -11,7 +11,7 @@ pub offset_bounds-homes-i : goal.offset_bounds-homes-i
 offset_bounds-homes-i c = omega arith
 
 pub returns-then-homes-i-ne0 : goal.returns-then-homes-i-ne0
-returns-then-homes-i-ne0 c = decides_yes (c.loop-i.i, c.loop-i-test.true, omega (arith, c.if-homes-i-ne0.true))
+returns-then-homes-i-ne0 c = decides_yes (c.loop-i.i, c.loop-i-test.true, omega arith)
 
 pub overflow_step-i : goal.overflow_step-i
 overflow_step-i c = omega arith
@@ -20,7 +20,7 @@ pub loop-i-smaller : goal.loop-i-smaller
 loop-i-smaller c = omega arith
 
 pub loop-i-preserved : goal.loop-i-preserved
-loop-i-preserved c = (omega arith, below_more _ _ c.loop-i.invariant.1 c.if-homes-i-ne0.false)
+loop-i-preserved c = (omega arith, below_more _ _ c.loop-i.invariant.1 (omega arith))
 
 pub returns : goal.returns
 returns c = decides_no (λ (i, h, p). omega (arith, c.loop-i.invariant.1 i (omega arith)))

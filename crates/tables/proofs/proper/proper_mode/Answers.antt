@@ -19,7 +19,7 @@ Here-Else-head-gt-CHANNELS = lts.Else1 tie.the-claims reads.Pre reads.Post
 
 -- not too many channels
 few : (c : Here-Else-head-gt-CHANNELS) → (head_in c.args.front.now).count ≤ CHANNELS
-few c = omega (arith, c.if-head-gt-CHANNELS.false, ap (λ (h : Head). h.count) c.head_of-head.ensures)
+few c = omega (arith, ap (λ (h : Head). h.count) c.head_of-head.ensures)
 
 pub returns-then-not-proper_actors : goal.returns-then-not-proper_actors
 returns-then-not-proper_actors c =
@@ -49,7 +49,7 @@ returns c =
     )
 
 pub returns-then-head-gt-CHANNELS : goal.returns-then-head-gt-CHANNELS
-returns-then-head-gt-CHANNELS c = decides_no (λ p. omega (arith, p.count, c.if-head-gt-CHANNELS.true, ap (λ (h : Head). h.count) c.head_of-head.ensures))
+returns-then-head-gt-CHANNELS c = decides_no (λ p. omega (arith, p.count, ap (λ (h : Head). h.count) c.head_of-head.ensures))
 
 pub unlisted-requires : goal.unlisted-requires
 unlisted-requires c = (c.requires.0, c.requires.1, few c.before.before.before.before)
