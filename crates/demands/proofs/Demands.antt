@@ -57,9 +57,9 @@ OfRow (rows_refused n k) = (1 ≤ n) × (n ≤ 5)
 front_row : {earlier : List Row} {text : List ℕ} {n : ℕ} → FrontRefused earlier text n → (1 ≤ n) × (n ≤ 5)
 front_row (FrontRefused.by_1 x) = (omega arith, omega arith)
 front_row (FrontRefused.by_2 x) = (omega arith, omega arith)
-front_row (FrontRefused.by_Row f (by_3 x)) = (omega arith, omega arith)
-front_row (FrontRefused.by_Row f (by_4 x y)) = (omega arith, omega arith)
-front_row (FrontRefused.by_Row f (by_5 x y z)) = (omega arith, omega arith)
+front_row (FrontRefused.by_row f (by_3 x)) = (omega arith, omega arith)
+front_row (FrontRefused.by_row f (by_4 x y)) = (omega arith, omega arith)
+front_row (FrontRefused.by_row f (by_5 x y z)) = (omega arith, omega arith)
 
 after_row : {earlier : List Row} {text : List ℕ} {o : Rows} → After earlier text o → OfRow o
 after_row After.done = tt
