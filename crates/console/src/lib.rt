@@ -30,18 +30,19 @@ const NOTHING: Input = Input {
 };
 
 // Tells on standard error what failed and why, in the system's words, without the error's number.
-fn tell(rt: &impl Eprint, what: &str, error: Error) {
+fn tell(rt: &impl Eprint, what: &[u8], error: Error) {
     let text = InlineText::<128>::of(error);
     let words = text.as_str();
     let why = match words.split_once(" (os error ") {
         Some((front, _)) => front,
         None => words,
     };
+    let what = str::from_utf8(what).unwrap_or("?");
     let _ = eprintln!(rt; "{what}: {why}");
 }
 
 // Reads until the end of the input or of the buffer. A read that fails is told on standard error.
-pub fn read<R: Read>(rt: &impl Eprint, file: &mut R, name: &str, buffer: &mut [u8]) -> Input
+pub fn read<R: Read>(rt: &impl Eprint, file: &mut R, name: &[u8], buffer: &mut [u8]) -> Input
     ensures front { IsPrefixLen result.count buffer.new }
     ensures bytes { IsTrue result.whole → Consumes (R.remaining file.old) (R.remaining file.new) (take result.count buffer.new) }
     ensures end { IsTrue result.whole → result.count < length buffer.new → IsAtEnd (R.remaining file.new) }
@@ -72,13 +73,13 @@ pub fn read_file(rt: &(impl Files + Eprint), path: &[u8], buffer: &mut [u8]) -> 
     ensures { IsPrefixLen result.count buffer.new }
 {
     let Ok(name) = str::from_utf8(path) else {
-        tell(rt, "a path", Error::from(ErrorKind::InvalidFilename));
+        tell(rt, b"a path", Error::from(ErrorKind::InvalidFilename));
         return NOTHING;
     };
     match fs::open(rt, name) {
-        Ok(mut file) => read(rt, &mut file, name, buffer),
+        Ok(mut file) => read(rt, &mut file, path, buffer),
         Err(error) => {
-            tell(rt, name, error);
+            tell(rt, path, error);
             NOTHING
         }
     }
@@ -87,7 +88,7 @@ pub fn read_file(rt: &(impl Files + Eprint), path: &[u8], buffer: &mut [u8]) -> 
 // Writes on standard output. What could not be written is told on standard error.
 pub fn write(rt: &(impl Print + Eprint), bytes: &[u8]) {
     if let Err(error) = rt.write_all(bytes) {
-        tell(rt, "standard output", error);
+        tell(rt, b"standard output", error);
     }
 }
 
