@@ -1,17 +1,47 @@
 -- What a class says of the bytes at the front of a text. Assumes nothing.
-use mathlib.Core.Path.{◌≡◌, refl, ap, subst}
-use mathlib.Core.Bool.{Bool, true, false, cond}
+use mathlib.Core.Path.{◌≡◌, refl, ap, sym, subst, ◌∙◌}
+use mathlib.Core.Bool.{Bool, true, false, cond, not}
 use mathlib.Core.List.{List, [], ◌∷◌}
+use mathlib.Core.Logic.{inl, inr}
 use Prim.Native.Nat.{ℕ, ◌+◌, ◌-◌, ◌<◌}
 use native.Mathlib.Numerals.{add-one}
 use native.Mathlib.Omega.{arith}
-use lib.Dec.{eqb, ltb}
+use lib.Dec.{T, eqb, ltb}
 use lib.ListN.{length, get_or, drop, length-drop}
 use lib.Seq.{drop-cons}
 use borrow.Author.Tests.{eqb-true}
+use types.Run.{OneOf, miss}
+use mir.Val.{has_key}
+use denote.Enum.Declared.{tag_of}
+use Rattle.numbers.specs.Every.{Every}
 use Rattle.rfc4180.specs.declared.bytes.Class.{Class}
 use Rattle.rfc4180.specs.declared.bytes.Class.TheVariants.{Text, Comma, Quote, Return, Feed, Other, Nothing}
 use Rattle.rfc4180.specs.Bytes.{class_of, class_at}
+use Rattle.rfc4180.specs.contracts.bytes.Class.{the_type}
+
+-- the class of each number
+abbrev numbered : ℕ → Class
+numbered n = get_or (Text ∷ Comma ∷ Quote ∷ Return ∷ Feed ∷ Other ∷ []) n Nothing
+
+numbered_tag : (x : Class) → numbered (tag_of the_type x) ≡ x
+numbered_tag Text = refl
+numbered_tag Comma = refl
+numbered_tag Quote = refl
+numbered_tag Return = refl
+numbered_tag Feed = refl
+numbered_tag Other = refl
+numbered_tag Nothing = refl
+
+-- what holds of each class that comes to an arm
+pub arm : (P : Class → Type 0) (ks : List ℕ) (x : Class) → Every (λ k. P (numbered k)) ks → OneOf ks (tag_of the_type x) → P x
+arm P [] x p h = absurd h
+arm P (k ∷ []) x p h = subst P (ap numbered (sym h) ∙ numbered_tag x) p.0
+arm P (k ∷ l ∷ ks) x p (inl h) = subst P (ap numbered (sym h) ∙ numbered_tag x) p.0
+arm P (k ∷ l ∷ ks) x p (inr h) = arm P (l ∷ ks) x p.1 h
+
+-- a class that does not come to an arm
+pub other : (y : Class) (ks : List ℕ) (x : Class) → T (not (has_key ks (tag_of the_type y))) → OneOf ks (tag_of the_type x) → x ≡ y → ⊥
+other y ks x n h e = miss ks (tag_of the_type y) n (subst (λ (z : Class). OneOf ks (tag_of the_type z)) e h)
 
 -- the front of a text of each class
 abbrev pub Front : Class → List ℕ → Type 0
@@ -51,3 +81,7 @@ inside s i h = go (drop i s) h (length-drop i s)
 
 pub at_front : (s : List ℕ) (i : ℕ) → i < length s → drop i s ≡ get_or s i 0 ∷ drop (i + 1) s
 at_front s i h = rw (add-one, drop-cons s i 0)
+
+-- two classes that differ
+pub apart : (y z : Class) → T (not (has_key (tag_of the_type y ∷ []) (tag_of the_type z))) → y ≡ z → ⊥
+apart y z n e = other z (tag_of the_type y ∷ []) y n refl e
