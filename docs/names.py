@@ -61,12 +61,14 @@ def reading_path():
 
     def resolve(crate, file, word):
         known = known_in[crate, file]
-        for w in (word, word.rstrip('.')):
+        w = word.rstrip('.')
+        while w:
             front, dot, last = w.rpartition('.')
             found = (crate, file, w), known.get(w), known.get(front + dot, (None, None, None))[:2] + (last,)
             for key in found:
                 if key in lines_of:
                     return key
+            w = front
         return None
 
     todo = [k for k in lines_of if k[0] == 'demands' and re.fullmatch(r'Demand[123]', k[2])]
@@ -90,7 +92,7 @@ def main():
     for page in list(files('docs', '.md')) + [os.path.join(TOP, 'README.md')]:
         name = os.path.basename(page)
         for quoted in re.findall(r'`([^`\n]+)`', text(page)):
-            if re.fullmatch(r'(crates|docs|bench|examples|include)/[\w./-]+', quoted):
+            if re.fullmatch(r'(crates|docs|bench|examples|include|tools)/[\w./-]+', quoted):
                 if 'NAME' not in quoted and not os.path.exists(os.path.join(TOP, quoted)):
                     wrong.append('%s: no file %s' % (name, quoted))
             elif re.fullmatch(r"[A-Za-z][\w'-]*(::\w+)*", quoted) and '::' in quoted:

@@ -1,4 +1,4 @@
 -- What the proofs lean on.
 mod Telling
-mod Unique
+pub mod Unique
 mod Settled

@@ -1,0 +1,3 @@
+-- What the exports promise, and that it settles their answers.
+mod Functions
+mod Settled
