@@ -1,5 +1,6 @@
 -- calls::plan meets its contract.
 use mathlib.Core.Path.{◌≡◌, sym, subst}
+use native.Mathlib.Omega.{arith}
 use lib.ListN.{replicate}
 use Rattle.terms.specs.declared.refusal.Refusal.{Refusal}
 use Rattle.layout.specs.Words.{WORDS}
@@ -25,11 +26,8 @@ returns-then-out-ne-PRINTED c =
 answers : (c : Here-After-plan-answer) {a : Answer} → c.plan-answer.result ≡ a → Plans c.args.text.now (replicate WORDS 0) a c.plan-answer.new.words
 answers c e = subst (λ (a : Answer). Plans c.args.text.now (replicate WORDS 0) a c.plan-answer.new.words) e c.plan-answer.ensures
 
-pub print_refusal-requires : goal.print_refusal-requires
-print_refusal-requires c = c.if-out-ne-PRINTED.false
-
 pub returns-in-Refused : goal.returns-in-Refused
-returns-in-Refused c = PlanFills.fills c.if-out-ne-PRINTED.false (refused (answers c.before.before.before.before.before.before.before c.in-Refused.is)) c.print_refusal.ensures
+returns-in-Refused c = PlanFills.fills (omega arith) (refused (answers c.before.before.before.before.before.before.before c.in-Refused.is)) c.print_refusal.ensures
 
 pub returns : goal.returns
-returns c = prints_fills c.if-out-ne-PRINTED.false (answers c.before.before.before.before.before.before.before.before c.in_default.is) c.print.ensures
+returns c = prints_fills (omega arith) (answers c.before.before.before.before.before.before.before.before c.in_default.is) c.print.ensures
