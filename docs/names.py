@@ -91,6 +91,8 @@ def main():
     edits = {os.path.basename(f)[:-5] for f in files('crates', '.edit')}
     for page in list(files('docs', '.md')) + [os.path.join(TOP, 'README.md')]:
         name = os.path.basename(page)
+        if name == 'PORT.md':  # it names what was before
+            continue
         for quoted in re.findall(r'`([^`\n]+)`', text(page)):
             if re.fullmatch(r'(crates|docs|bench|examples|include|tools)/[\w./-]+', quoted):
                 if 'NAME' not in quoted and not os.path.exists(os.path.join(TOP, quoted)):
