@@ -1,6 +1,7 @@
 -- Laws of arguments one behind the other. Assumes nothing.
 use mathlib.Core.Path.{◌≡◌, refl, sym, ap, ap₂, ◌∙◌}
-use mathlib.Core.Bool.{Bool, true, false, cond, true≢false}
+use mathlib.Core.Bool.{Bool, true, false, cond}
+use Rattle.std.specs.Prelude.{Option, Some}
 use mathlib.Core.List.{List, [], ◌∷◌}
 use Prim.Native.Nat.{ℕ, suc, ◌+◌, ◌-◌, ◌≤◌, ◌<◌}
 use native.Mathlib.Nat.{min-eq_left}
@@ -8,29 +9,18 @@ use native.Mathlib.Omega.{arith}
 use lib.Dec.{eqb}
 use lib.ListN.{length, take, drop, drop_of_length-le, length-take, length-drop}
 use lib.Seq.{drop-drop}
-use Rattle.arguments.specs.declared.Request.{Request}
 use Rattle.arguments.specs.Argument.{longer, arguments_of, first_of, FirstBad, none, here, later}
-use Rattle.arguments.specs.Sign.{sign_in}
-use Rattle.arguments.proofs.Reading.{request_unique}
-
-sign_within : (sign : ℕ) (s : List ℕ) → sign_in sign s ≤ length s
-unfolding sign_in
-sign_within sign [] = omega arith
-sign_within sign (b ∷ s) = go (eqb b sign) (sign_within sign s)
-  where
-    go : (x : Bool) → sign_in sign s ≤ length s → cond x 0 (suc (sign_in sign s)) ≤ suc (length s)
-    go true h = omega arith
-    go false h = omega arith
+use Rattle.arguments.proofs.Reading.{request_unique, sign_in, sign_none, sign_next, sign_within}
 
 -- some bytes are their first argument, and those behind its 0
 parted : (b : ℕ) (s : List ℕ) → arguments_of (b ∷ s) ≡ take (sign_in 0 (b ∷ s)) (b ∷ s) ∷ arguments_of (drop (suc (sign_in 0 (b ∷ s))) (b ∷ s))
-unfolding sign_in arguments_of
-parted b [] = go (eqb b 0)
+unfolding arguments_of
+parted b [] = rw (sign_next, sign_none) (go (eqb b 0))
   where
     go : (x : Bool) → cond x ([] ∷ []) (longer b []) ≡ take (cond x 0 1) (b ∷ []) ∷ arguments_of (drop (suc (cond x 0 1)) (b ∷ []))
     go true = refl
     go false = refl
-parted b (a ∷ s) = go (eqb b 0) (parted a s)
+parted b (a ∷ s) = rw (sign_next 0 b (a ∷ s)) (go (eqb b 0) (parted a s))
   where
     go : (x : Bool) → arguments_of (a ∷ s) ≡ take (sign_in 0 (a ∷ s)) (a ∷ s) ∷ arguments_of (drop (suc (sign_in 0 (a ∷ s))) (a ∷ s))
         → cond x ([] ∷ arguments_of (a ∷ s)) (longer b (arguments_of (a ∷ s)))
@@ -39,8 +29,8 @@ parted b (a ∷ s) = go (eqb b 0) (parted a s)
     go false h = ap (longer b) h
 
 pub first_sign : (s : List ℕ) → length (first_of (arguments_of s)) ≡ sign_in 0 s
-unfolding sign_in arguments_of
-first_sign [] = refl
+unfolding arguments_of
+first_sign [] = sym (sign_none 0)
 first_sign (b ∷ s) =
     ap (λ (t : List (List ℕ)). length (first_of t)) (parted b s) ∙ length-take (sign_in 0 (b ∷ s)) (b ∷ s) ∙ min-eq_left (sign_within 0 (b ∷ s))
 
@@ -81,18 +71,17 @@ arguments_within (b ∷ s) = go (eqb b 0) (arguments_of s) (arguments_within s)
     go false [] h = omega arith
     go false (a ∷ t) h = omega arith
 
-bad_at : {number n : ℕ} {s : List (List ℕ)} → FirstBad number s n → n ≤ number + length s
-bad_at none = omega arith
-bad_at (here p e) = omega arith
-bad_at (later p e m) = omega (arith, bad_at m)
+bad_at : {number n : ℕ} {s : List (List ℕ)} → FirstBad number s (Some n) → n ≤ number + length s
+bad_at (here p) = omega arith
+bad_at (later p m) = omega (arith, bad_at m)
 
-pub bad_within : {n : ℕ} (s : List ℕ) (from : ℕ) → FirstBad 1 (arguments_of (drop from s)) n → n ≤ 1 + length s
+pub bad_within : {n : ℕ} (s : List ℕ) (from : ℕ) → FirstBad 1 (arguments_of (drop from s)) (Some n) → n ≤ 1 + length s
 bad_within s from f = omega (arith, bad_at f, arguments_within (drop from s), length-drop from s)
 
 -- the first that is no request is one only
-pub bad_unique : {number x y : ℕ} {s : List (List ℕ)} → FirstBad number s x → FirstBad number s y → x ≡ y
+pub bad_unique : {number : ℕ} {x y : Option ℕ} {s : List (List ℕ)} → FirstBad number s x → FirstBad number s y → x ≡ y
 bad_unique none none = refl
-bad_unique (here p e) (here q f) = refl
-bad_unique (here p e) (later q f n) = absurd (true≢false (sym f ∙ ap (λ (r : Request). r.good) (request_unique q p) ∙ e))
-bad_unique (later p e m) (here q f) = absurd (true≢false (sym e ∙ ap (λ (r : Request). r.good) (request_unique p q) ∙ f))
-bad_unique (later p e m) (later q f n) = bad_unique m n
+bad_unique (here p) (here q) = refl
+bad_unique (here p) (later q n) = let e = request_unique p q in cc
+bad_unique (later p m) (here q) = let e = request_unique p q in cc
+bad_unique (later p m) (later q n) = bad_unique m n

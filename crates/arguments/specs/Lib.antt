@@ -1,3 +1,2 @@
 -- The arguments of a call.
 pub mod Argument
-pub mod Sign

@@ -1,33 +1,25 @@
 // The arguments of a call, one behind the other in some bytes, each ended by a 0.
 #![tactic(auto)]
 
-ghost use Rattle.std.specs.Prelude.{◌≡◌, ◌+◌, length, drop};
-ghost use Rattle.arguments.specs.Argument.{arguments_of, first_of, no_request, RequestOf, FirstBad};
-ghost use Rattle.arguments.specs.Sign.{sign_in};
+ghost use Rattle.std.specs.Prelude.{◌≡◌, ◌+◌, length, drop, eqb};
+ghost use Rattle.std.specs.List.{position};
+ghost use Rattle.arguments.specs.Argument.{arguments_of, first_of, RequestOf, FirstBad};
 
-use rfc4180::decimal::{GREATEST, Number, number_of};
+use rfc4180::decimal::number_of;
 use units::Tick;
 
-// A request, where the bytes are one: a mode and a clock, as MODE@CLOCK.
-#[derive(Drop)]
+// A request: a mode and a clock, as MODE@CLOCK.
+#[derive(Clone, Copy)]
 pub struct Request {
-    pub good: bool,
     pub mode: u64,
     pub clock: Tick,
 }
 
-// Where a sign first stands; the end where it does not.
-fn sign_in(bytes: &[u8], sign: u8) -> usize
-    ensures { result ≡ sign_in sign bytes.now }
+// Where a sign first stands.
+fn sign_in(bytes: &[u8], sign: u8) -> Option<usize>
+    ensures { result ≡ position (λ b. eqb b sign) bytes.now }
 {
-    let mut i: usize = 0;
-    while i < bytes.len() {
-        if bytes[i] == sign {
-            return i;
-        }
-        i += 1;
-    }
-    i
+    bytes.iter().position(|b| *b == sign)
 }
 
 // Where the argument that begins at a place ends.
@@ -37,57 +29,36 @@ pub fn end_of(bytes: &[u8], at: usize) -> usize
     if bytes.len() <= at {
         return at;
     }
-    at + sign_in(&bytes[at..], 0)
-}
-
-fn no_request() -> Request
-    ensures { result ≡ no_request }
-{
-    Request {
-        good: false,
-        mode: 0,
-        clock: Tick::NONE,
-    }
+    let rest = &bytes[at..];
+    at + sign_in(rest, 0).unwrap_or(rest.len())
 }
 
 // The request that the bytes are.
-pub fn request_of(bytes: &[u8]) -> Request
+pub fn request_of(bytes: &[u8]) -> Option<Request>
     ensures { RequestOf bytes.now result }
 {
-    let sign = sign_in(bytes, b'@');
-    if bytes.len() <= sign {
-        return no_request();
-    }
-    let Number::Is(mode) = number_of(&bytes[..sign], 0, GREATEST) else {
-        return no_request();
-    };
-    let Number::Is(clock) = number_of(&bytes[sign + 1..], 0, GREATEST) else {
-        return no_request();
-    };
-    Request {
-        good: true,
+    let sign = sign_in(bytes, b'@')?;
+    let mode = number_of(&bytes[..sign], 0, u64::MAX)?;
+    let clock = number_of(&bytes[sign + 1..], 0, u64::MAX)?;
+    Some(Request {
         mode,
         clock: Tick::of(clock),
-    }
+    })
 }
 
-// Which argument from a place on is the first that is no request, counted from 1; 0 where all are requests.
-pub fn first_bad(bytes: &[u8], from: usize) -> usize
+// Which argument from a place on is the first that is no request, counted from 1. The place goes from argument to argument, each of its own length.
+pub fn first_bad(bytes: &[u8], from: usize) -> Option<usize>
     ensures { FirstBad 1 (arguments_of (drop from bytes.now)) result }
 {
     let mut at = from;
-    let mut before: usize = 0;
+    let mut number: usize = 1;
     while at < bytes.len() {
         let end = end_of(bytes, at);
-        let request = request_of(&bytes[at..end]);
-        if !request.good {
-            return before + 1;
-        }
-        if end == bytes.len() {
-            return 0;
+        if request_of(&bytes[at..end]).is_none() {
+            return Some(number);
         }
         at = end + 1;
-        before += 1;
+        number += 1;
     }
-    0
+    None
 }

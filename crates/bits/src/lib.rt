@@ -9,10 +9,7 @@ ghost use Rattle.numbers.specs.Decides.{Decides};
 pub fn has(set: u16, i: usize) -> bool
     ensures { Decides (Has set i) result }
 {
-    if 16 <= i {
-        return false;
-    }
-    (set >> i) & 1 == 1
+    i < 16 && (set >> i) & 1 == 1
 }
 
 // The set with i.
@@ -20,7 +17,7 @@ pub fn with(set: u16, i: usize) -> u16
     requires { i < 16 }
     ensures { With set i result }
 {
-    set | (1u16 << i)
+    set | (1 << i)
 }
 
 // The set without i.
@@ -28,7 +25,7 @@ pub fn without(set: u16, i: usize) -> u16
     requires { i < 16 }
     ensures { Without set i result }
 {
-    if has(set, i) { set - (1u16 << i) } else { set }
+    set & !(1 << i)
 }
 
 // Whether every number that a has, b has.
@@ -42,5 +39,5 @@ pub fn within(a: u16, b: u16) -> bool
 pub fn size(set: u16) -> u32
     ensures { result ≡ size_of 16 set }
 {
-    u16::count_ones(set)
+    set.count_ones()
 }

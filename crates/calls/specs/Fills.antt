@@ -1,16 +1,14 @@
 -- What is printed, laid over a buffer.
-use Rattle.std.specs.Prelude.{◌≡◌, List, ℕ, suc, ◌+◌, ◌*◌, ◌≤◌, length}
+use Rattle.std.specs.Prelude.{◌≡◌, Result, Ok, Err, List, ℕ, suc, ◌+◌, ◌*◌, ◌≤◌, length}
+use Rattle.units.specs.declared.Tick.{Tick}
+use Rattle.terms.specs.declared.refusal.Refusal.{Refusal}
 use Rattle.rfc4180.specs.Laid.{Laid}
 use Rattle.printer.specs.Printed.{PRINTED, Shows}
-use Rattle.planner.specs.declared.Printing.{Printing}
-use Rattle.planner.specs.declared.Printing.TheVariants.{Printed, Refused}
 use Rattle.planner.specs.Plans.{no_plan}
 use Rattle.machine.specs.declared.Machine.{Machine}
-use Rattle.machine.specs.declared.Answer.{Answer}
 use Rattle.machine.specs.Answers.{Answers}
 use Rattle.arguments.specs.declared.Request.{Request}
 use Rattle.arguments.specs.Argument.{arguments_of}
-use Rattle.calls.specs.declared.session.Reached.{Reached}
 use Rattle.calls.specs.Prints.{PlanPrints, AskPrints, answer_text}
 
 -- the most bytes of a line: its word, five commas and numbers of 64 bits, and CRLF
@@ -27,11 +25,10 @@ pub record LaysLine (text before : List ℕ) (at : ℕ) (after : List ℕ) (end 
   pub short : end ≤ at + LINE
 
 -- the answer to a request, laid over a buffer from a place on, and the machine after it
-pub record LaysAnswer (words : List ℕ) (m : Machine) (r : Request) (before : List ℕ) (at : ℕ) (after : List ℕ) (reached : Reached) : Type 0 where
-  pub answer : Answer
-  pub answers : Answers words m r.mode r.clock answer
-  pub machine : reached.machine ≡ answer.machine
-  pub line : LaysLine (answer_text answer.reply answer.machine) before at after reached.end
+pub record LaysAnswer (words : List ℕ) (m : Machine) (r : Request) (before : List ℕ) (at : ℕ) (after : List ℕ) (n : Machine) (end : ℕ) : Type 0 where
+  pub answer : Result Tick Refusal
+  pub answers : Answers words m r.mode r.clock answer n
+  pub line : LaysLine (answer_text answer n) before at after end
 
 -- a text that meets a rule, laid over a buffer from a place on
 pub record Lays (Rule : List ℕ → Type 0) (before : List ℕ) (at : ℕ) (after : List ℕ) (end : ℕ) : Type 0 where
@@ -41,11 +38,11 @@ pub record Lays (Rule : List ℕ → Type 0) (before : List ℕ) (at : ℕ) (aft
   pub fits : end ≤ length before
 
 -- What `plan` prints, in a buffer of the one length, and 0 behind it; 15, and the buffer as it stood, where its length is another.
-pub data PlanFills (text before : List ℕ) : Printing → List ℕ → Type 0 where
-  no_room : (length before ≡ PRINTED → ⊥) → PlanFills text before (Refused no_plan) before
-  fills : {printed after : List ℕ} {n : ℕ} → length before ≡ PRINTED → PlanPrints text printed → Shows printed after n → PlanFills text before (Printed n) after
+pub data PlanFills (text before : List ℕ) : Result ℕ Refusal → List ℕ → Type 0 where
+  no_room : (length before ≡ PRINTED → ⊥) → PlanFills text before (Err no_plan) before
+  fills : {printed after : List ℕ} {n : ℕ} → length before ≡ PRINTED → PlanPrints text printed → Shows printed after n → PlanFills text before (Ok n) after
 
 -- What `ask` prints, laid over the front of a buffer that is long enough; 15, and the buffer as it stood, where it is not.
-pub data AskFills (text arguments before : List ℕ) : Printing → List ℕ → Type 0 where
-  no_room : (Enough arguments before → ⊥) → AskFills text arguments before (Refused no_plan) before
-  fills : {after : List ℕ} {n : ℕ} → Enough arguments before → Lays (AskPrints text (arguments_of arguments)) before 0 after n → AskFills text arguments before (Printed n) after
+pub data AskFills (text arguments before : List ℕ) : Result ℕ Refusal → List ℕ → Type 0 where
+  no_room : (Enough arguments before → ⊥) → AskFills text arguments before (Err no_plan) before
+  fills : {after : List ℕ} {n : ℕ} → Enough arguments before → Lays (AskPrints text (arguments_of arguments)) before 0 after n → AskFills text arguments before (Ok n) after

@@ -1,48 +1,33 @@
 // A machine on the words of a plan, and the lines of its answers to requests, one behind the other.
-ghost use Rattle.std.specs.Prelude.{◌+◌, ◌-◌, ◌*◌, ◌≤◌, length, drop};
-ghost use Rattle.arguments.specs.Argument.{arguments_of};
-ghost use Rattle.calls.specs.Prints.{answer_text, Lines, SessionPrints};
-ghost use Rattle.calls.specs.Fills.{LINE as LINE_LIMIT, Enough, Lays, LaysLine, LaysAnswer};
+ghost use Rattle.std.specs.Prelude.{None, ◌+◌, ◌-◌, ◌*◌, ◌≤◌, length, drop};
+ghost use Rattle.arguments.specs.Argument.{arguments_of, FirstBad};
+ghost use Rattle.calls.specs.Prints.{Lines, SessionPrints};
+ghost use Rattle.calls.specs.Fills.{LINE as LINE_LIMIT, Enough, Lays, LaysAnswer};
 
 use crate::lines::{accepted, begun, refused};
 use arguments::{Request, end_of, request_of};
-use machine::{Beginning, Machine, Reply};
+use machine::Machine;
 
-// A machine, and the place behind the lines of its answers.
-#[derive(Drop)]
-pub(crate) struct Reached {
-    pub machine: Machine,
-    pub end: usize,
-}
-
-// The line of an answer, with the machine after it.
-fn reply_line(out: &mut [u8], at: usize, reply: Reply, after: Machine) -> usize
+// The line of the answer to a request, with the machine after it.
+fn answered(
+    out: &mut [u8],
+    at: usize,
+    words: &[u64],
+    machine: &mut Machine,
+    request: Request,
+) -> usize
     requires { at + LINE_LIMIT ≤ length out.old }
-    ensures { LaysLine (answer_text reply after) out.old at out.new result }
+    ensures { LaysAnswer words.now machine.old request out.old at out.new machine.new result }
 {
-    match reply {
-        Reply::Accepted(delay) => accepted(out, at, delay, after),
-        Reply::Refused(refusal) => refused(out, at, refusal),
+    let answer = machine.request(words, request.mode, request.clock);
+    *machine = answer.machine;
+    match answer.reply {
+        Ok(delay) => accepted(out, at, delay, answer.machine),
+        Err(refusal) => refused(out, at, refusal),
     }
 }
 
-// The line of the answer to a request, and the machine after it.
-fn answered(out: &mut [u8], at: usize, words: &[u64], machine: Machine, request: Request) -> Reached
-    requires { at + LINE_LIMIT ≤ length out.old }
-    ensures { LaysAnswer words.now machine request out.old at out.new result }
-{
-    let clock = request.clock;
-    let answer = machine.request(words, request.mode, clock);
-    let reply = answer.reply;
-    let after = answer.machine;
-    let end = reply_line(out, at, reply, after);
-    Reached {
-        machine: after,
-        end,
-    }
-}
-
-// The lines of the answers to the requests from a place of the arguments on.
+// The lines of the answers to the requests from a place of the arguments on; the place goes from argument to argument, each of its own length.
 fn answers(
     out: &mut [u8],
     at: usize,
@@ -51,21 +36,21 @@ fn answers(
     arguments: &[u8],
     from: usize,
 ) -> usize
-    requires { Enough arguments.now out.old × (at + LINE_LIMIT * (length arguments.now - from) ≤ length out.old) }
+    requires enough { Enough arguments.now out.old }
+    requires room { at + LINE_LIMIT * (length arguments.now - from) ≤ length out.old }
+    requires good { FirstBad 1 (arguments_of (drop from arguments.now)) None }
     ensures { Lays (Lines words.now first (arguments_of (drop from arguments.now))) out.old at out.new result }
 {
-    let mut reached = Reached {
-        machine: first,
-        end: at,
-    };
+    let mut machine = first;
+    let mut reached = at;
     let mut place = from;
     while place < arguments.len() {
         let end = end_of(arguments, place);
-        let request = request_of(&arguments[place..end]);
-        reached = answered(out, reached.end, words, reached.machine, request);
+        let request = request_of(&arguments[place..end]).unwrap();
+        reached = answered(out, reached, words, &mut machine, request);
         place = end + 1;
     }
-    reached.end
+    reached
 }
 
 // The lines of a machine that begins in a mode, and of its answers.
@@ -76,14 +61,16 @@ pub(crate) fn session(
     arguments: &[u8],
     from: usize,
 ) -> usize
-    requires { Enough arguments.now out.old × (1 ≤ from) }
+    requires enough { Enough arguments.now out.old }
+    requires from { 1 ≤ from }
+    requires good { FirstBad 1 (arguments_of (drop from arguments.now)) None }
     ensures { Lays (SessionPrints words.now mode (arguments_of (drop from arguments.now))) out.old 0 out.new result }
 {
     match machine::start(words, mode) {
-        Beginning::Begun(machine) => {
+        Ok(machine) => {
             let at = begun(out, machine);
             answers(out, at, words, machine, arguments, from)
         }
-        Beginning::Refused(refusal) => refused(out, 0, refusal),
+        Err(refusal) => refused(out, 0, refusal),
     }
 }

@@ -1,13 +1,12 @@
--- What is read from a front and from the words of its works is what its mode has as it runs. Assumes nothing.
-use mathlib.Core.Path.{◌≡◌, refl, sym, ap, ap₂, ◌∙◌}
-use mathlib.Core.Bool.{Bool, cond}
+-- What is read from a front and from its works is what its mode has as it runs. Assumes nothing.
+use mathlib.Core.Path.{◌≡◌, sym, ap, ap₂, ◌∙◌}
+use mathlib.Core.Bool.{Bool, true}
 use mathlib.Core.List.{List}
-use Prim.Native.Nat.{ℕ, ◌+◌, ◌*◌, ◌^◌, ◌≤◌, ◌<◌}
+use Prim.Native.Nat.{ℕ, ◌^◌, ◌≤◌, ◌<◌}
 use native.Mathlib.Omega.{arith}
 use lib.Dec.{leb}
 use lib.ListN.{length, get_or}
 use Rattle.numbers.specs.Decides.{Decides, leb_is}
-use Rattle.numbers.specs.Joined.{length_joined, get_or_joined}
 use Rattle.numbers.specs.Tab.{get_or_tab, is_tab}
 use Rattle.numbers.specs.declared.fraction.Fraction.{Fraction}
 use Rattle.units.specs.Limits.{ACTORS}
@@ -22,10 +21,11 @@ use Rattle.tables.specs.declared.memory.Times.{Times}
 use Rattle.tables.specs.Shape.{no_actor}
 use Rattle.tables.specs.Memory.{front_words, head_in, actor_in, times_in}
 use Rattle.tables.proofs.Remembered.{front_head, front_actor, front_times}
+use Rattle.change.specs.declared.Prepared.{Prepared}
 use Rattle.change.specs.declared.Works.{Works}
 use Rattle.change.specs.declared.wait.Side.{Side}
-use Rattle.change.specs.Work.{WORK_WORDS, WORKS_WORDS, actor_of, firings_at, tick_at, counted_of, no_works, work_words, works_held}
-use Rattle.change.specs.Running.{Fitting, prepared_of, running_in, ReadyFront}
+use Rattle.change.specs.Work.{actor_of, firings_at, tick_at, counted_of, no_works}
+use Rattle.change.specs.Running.{Running, Fitting, prepared_of, running_in, ReadyFront}
 use Rattle.change.specs.Waits.{old_side, new_side}
 use Rattle.change.proofs.Loads.{counted_one}
 
@@ -51,43 +51,34 @@ module _ (f : List ℕ) (k : ℕ) (l : k < ACTORS) {a : Actor} {t : Times} (ea :
   pub work_small : Fitting (running_in f) → (work_of a.wcet t.firings).0 < 2 ^ 64
   work_small fits = rw (actor_read f k l ea, firings_read f k l et) (work_fits (fits.wcet k l) (omega (arith, fits.few k l)))
 
-  module _ (p : ℕ) (start : Tick) (b : Bool) {v w : Tick} (on : a.processor ≡ p) (ev : v ≡ work_of a.wcet t.firings) (ew : w ≡ cond b v (tick 0)) where
-    pub since_one : Decides (start.0 ≤ t.start.0) b → w ≡ counted_of (running_in f).actors (running_in f).firings p (starts_since f start) k
-    since_one d =
-        counted_one (running_in f) p k (starts_since f start) (actor_read f k l ea) (firings_read f k l et) on
-        (ap (λ (s : Tick). leb start.0 s.0) (sym (start_read f k l et)) ∙ leb_is _ _ b d) ev ew
+  -- whether it counts, by its start
+  module _ (start : Tick) {b : Bool} where
+    pub since_is : Decides (start.0 ≤ t.start.0) b → starts_since f start k ≡ b
+    since_is d = ap (λ (s : Tick). leb start.0 s.0) (sym (start_read f k l et)) ∙ leb_is _ _ b d
 
-    pub until_one : Decides (t.start.0 ≤ start.0) b → w ≡ counted_of (running_in f).actors (running_in f).firings p (starts_until f start) k
-    until_one d =
-        counted_one (running_in f) p k (starts_until f start) (actor_read f k l ea) (firings_read f k l et) on
-        (ap (λ (s : Tick). leb s.0 start.0) (sym (start_read f k l et)) ∙ leb_is _ _ b d) ev ew
+    pub until_is : Decides (t.start.0 ≤ start.0) b → starts_until f start k ≡ b
+    until_is d = ap (λ (s : Tick). leb s.0 start.0) (sym (start_read f k l et)) ∙ leb_is _ _ b d
 
-module _ {f words : List ℕ} (ready : ReadyFront f words) where
-  abbrev words_at : ℕ → List ℕ
-  words_at i = work_words (get_or (running_in f).works i no_works)
+  -- what it adds where it is on processor p and counts
+  pub counted : (p : ℕ) (counts : ℕ → Bool) {v : Tick} → a.processor ≡ p → counts k ≡ true → v ≡ work_of a.wcet t.firings → v ≡ counted_of (running_in f).actors (running_in f).firings p counts k
+  counted p counts on c e = counted_one (running_in f) p k counts (actor_read f k l ea) (firings_read f k l et) on c e
 
-  pub length_works : length words ≡ WORKS_WORDS
-  length_works = ap length ready.works ∙ length_joined WORK_WORDS words_at (λ i. refl) ACTORS
-
-  module _ (i : ℕ) (l : i < ACTORS) where
-    word : (j : ℕ) → j < WORK_WORDS → get_or words (WORK_WORDS * i + j) 0 ≡ get_or (words_at i) j 0
-    word j b = ap (λ (w : List ℕ). get_or w (WORK_WORDS * i + j) 0) ready.works ∙ get_or_joined WORK_WORDS words_at (λ i. refl) ACTORS i j 0 l b
-
-    held : works_held words i ≡ get_or (running_in f).works i no_works
-    held =
-        let z : WORK_WORDS * i ≡ WORK_WORDS * i + 0 = omega arith in
-        ap₂ (λ (a b : ℕ). record { since = tick a; until = tick b }) (ap (λ (n : ℕ). get_or words n 0) z ∙ word 0 (omega arith)) (word 1 (omega arith))
+module _ {p : Prepared} (ready : ReadyFront p) where
+  abbrev r : Running
+  r = running_in p.front.now
 
   -- an actor of the mode that is left, and one of the mode that is entered
-  module _ (i : ℕ) (l : i < ACTORS) {h : Head} {t : Times} {w : Works} {s : Fraction} (eh : h ≡ head_in f) (et : t ≡ times_in f i) (ew : w ≡ works_held words i) where
-    side : (of : Works → Tick) → s ≡ share_of (of w) h.iteration
-        → ◌≡◌ {A = Side} (record { start = t.start; asked = s }) (record { start = tick_at (running_in f).starts i; asked = share_of (of (get_or (running_in f).works i no_works)) (running_in f).iteration })
-    side of es = ap₂ (λ (t : Tick) (s : Fraction). record { start = t; asked = s }) (start_read f i l et) (es ∙ ap₂ (λ (w : Works) (h : Head). share_of (of w) h.iteration) (ew ∙ held i l) eh)
+  module _ (i : ℕ) (l : i < ACTORS) {h : Head} {t : Times} {s : Fraction} (eh : h ≡ head_in p.front.now) (et : t ≡ times_in p.front.now i) where
+    side : (of : Works → Tick) → s ≡ share_of (of (get_or p.works.now i no_works)) h.iteration
+        → ◌≡◌ {A = Side} (record { start = t.start; asked = s }) (record { start = tick_at r.starts i; asked = share_of (of (get_or r.works i no_works)) r.iteration })
+    side of es =
+        ap₂ (λ (t : Tick) (s : Fraction). record { start = t; asked = s }) (start_read p.front.now i l et)
+        (es ∙ ap₂ (λ (ws : List Works) (h : Head). share_of (of (get_or ws i no_works)) h.iteration) ready.works eh)
 
-    pub old_side_law : s ≡ share_of w.since h.iteration → ◌≡◌ {A = Side} (record { start = t.start; asked = s }) (old_side (running_in f) i)
+    pub old_side_law : s ≡ share_of (get_or p.works.now i no_works).since h.iteration → ◌≡◌ {A = Side} (record { start = t.start; asked = s }) (old_side r i)
     old_side_law = side (λ w. w.since)
 
-    pub new_side_law : s ≡ share_of w.until h.iteration → ◌≡◌ {A = Side} (record { start = t.start; asked = s }) (new_side (running_in f) i)
+    pub new_side_law : s ≡ share_of (get_or p.works.now i no_works).until h.iteration → ◌≡◌ {A = Side} (record { start = t.start; asked = s }) (new_side r i)
     new_side_law = side (λ w. w.until)
 
 -- the mode whose numbers are put into a front runs by them

@@ -2,4 +2,5 @@
 pub mod Loads
 pub mod Offsets
 pub mod Fronts
+pub mod Made
 mod Settled

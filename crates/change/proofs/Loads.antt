@@ -1,12 +1,12 @@
 -- The work of a mode between two ticks, and what it asks of a processor as a part of an iteration. Assumes nothing.
-use mathlib.Core.Path.{◌≡◌, refl, ap, ap₂, ◌∙◌}
+use mathlib.Core.Path.{◌≡◌, refl, ap, ◌∙◌}
 use mathlib.Core.Bool.{Bool, true, false, cond, ◌&&◌}
 use mathlib.Core.Logic.{◌⊎◌, inl, inr, ⊎_elim, ◌↔◌}
 use Prim.Native.Nat.{ℕ, zero, suc, ◌+◌, ◌*◌, ◌^◌, ◌≤◌, ◌<◌, zero-le}
 use native.Mathlib.Nat.{le_antisymm, le_refl}
 use native.Mathlib.Omega.{arith}
 use native.Mathlib.Decide.{dec_le}
-use borrow.Author.Tests.{eq-eqb, ne_eqb, eqb-true}
+use borrow.Author.Tests.{eq-eqb, ne_eqb}
 use lib.Dec.{T, eqb, leb}
 use Rattle.numbers.specs.Bits.{bit, Has, hasb, has_or_not, has_decides}
 use Rattle.numbers.specs.Decides.{Decides, decides_unique, decides_and, decides_eqb, decides_leb, decides_true, decides_false}
@@ -22,7 +22,7 @@ use Rattle.units.specs.declared.Firing.{Firing}
 use Rattle.period.specs.Period.{work_of, work_most, share_of}
 use Rattle.tables.specs.declared.Actor.{Actor}
 use Rattle.graph.specs.Load.{is_on, asked_by, asked_of}
-use Rattle.change.specs.Work.{actor_of, firings_at, no_works, counted_of, works_of}
+use Rattle.change.specs.Work.{actor_of, firings_at, counted_of}
 use Rattle.change.specs.Change.{period_in, start_of}
 use Rattle.change.specs.Running.{Running, Fitting, mode_times, Ready}
 
@@ -30,7 +30,7 @@ use Rattle.change.specs.Running.{Running, Fitting, mode_times, Ready}
 abbrev pub work_on : Running → ℕ → (ℕ → Bool) → ℕ → Tick
 work_on r p counts k = tick (sum (λ i. (counted_of r.actors r.firings p counts i).0) k)
 
--- of actors and firings within their ranges it is within 64 bits, and there is none without a processor
+-- of actors and firings within their ranges it is within 64 bits
 module _ (r : Running) (fits : Fitting r) where
   pub work_fits : (p : ℕ) (counts : ℕ → Bool) (k : ℕ) → k < ACTORS → {v w : Tick} → v ≡ work_on r p counts k → w ≡ counted_of r.actors r.firings p counts k → v.0 + w.0 < 2 ^ 64
   work_fits p counts k l e f =
@@ -44,28 +44,27 @@ module _ (r : Running) (fits : Fitting r) where
       most i h =
           go (eqb (actor_of r.actors i).processor p && counts i) (work_of (actor_of r.actors i).wcet (firings_at r.firings i)) (work_most (fits.wcet i h) (omega (arith, fits.few i h)))
 
-  pub works_nowhere : (p : ℕ) (start : Tick) → p ≡ 0 → no_works ≡ works_of r.actors r.firings r.starts p start
-  works_nowhere p start e = rw e (ap₂ (λ (s u : ℕ). record { since = tick s; until = tick u }) (none _) (none _))
-    where
-      go : (i : ℕ) → i < ACTORS → (x : Bool) → eqb (actor_of r.actors i).processor 0 ≡ x → (y : Bool) → (cond (x && y) (work_of (actor_of r.actors i).wcet (firings_at r.firings i)) (tick 0)).0 ≤ 0
-      go i h true e true = rw (fits.nowhere i h (eqb-true _ _ e)) (omega arith)
-      go i h true e false = zero-le
-      go i h false e y = zero-le
-
-      none : (counts : ℕ → Bool) → 0 ≡ (work_on r 0 counts ACTORS).0
-      none counts = omega (arith, sum_most (λ i. (counted_of r.actors r.firings 0 counts i).0) 0 ACTORS (λ i h. go i h (eqb (actor_of r.actors i).processor 0) refl (counts i)))
-
--- one actor more: on processor p, or on another
+-- one actor more: one on processor p that counts, or another
 module _ (r : Running) (p k : ℕ) (counts : ℕ → Bool) where
-  pub counted_one : {a : Actor} {q : Firing} {b : Bool} {v w : Tick} → a ≡ actor_of r.actors k → q ≡ firings_at r.firings k → a.processor ≡ p → counts k ≡ b → v ≡ work_of a.wcet q
-      → w ≡ cond b v (tick 0) → w ≡ counted_of r.actors r.firings p counts k
-  counted_one ea eq on c f e = e ∙ rw (f, ← ea, ← eq, eq-eqb _ _ on, c)
+  pub counted_one : {a : Actor} {q : Firing} {v : Tick} → a ≡ actor_of r.actors k → q ≡ firings_at r.firings k → a.processor ≡ p → counts k ≡ true → v ≡ work_of a.wcet q
+      → v ≡ counted_of r.actors r.firings p counts k
+  counted_one ea eq on c f = rw (f, ← ea, ← eq, eq-eqb _ _ on, c)
 
   pub work_more : {u v w : Tick} → v ≡ work_on r p counts k → w ≡ counted_of r.actors r.firings p counts k → u ≡ plus_ticks v w → u ≡ work_on r p counts (k + 1)
   work_more e f g = g ∙ rw (e, f, sum_next (λ i. (counted_of r.actors r.firings p counts i).0) k)
 
-  pub work_no_more : {v : Tick} → v ≡ work_on r p counts k → ((actor_of r.actors k).processor ≡ p → ⊥) → v ≡ work_on r p counts (k + 1)
-  work_no_more e n = e ∙ rw (sum_next (λ i. (counted_of r.actors r.firings p counts i).0) k, ne_eqb _ _ n) (ap tick (omega arith))
+  pub work_no_more : {v : Tick} → v ≡ work_on r p counts k → (eqb (actor_of r.actors k).processor p && counts k) ≡ false → v ≡ work_on r p counts (k + 1)
+  work_no_more e n = e ∙ rw (sum_next (λ i. (counted_of r.actors r.firings p counts i).0) k, n) (ap tick (omega arith))
+
+  pub work_elsewhere : {v : Tick} → v ≡ work_on r p counts k → ((actor_of r.actors k).processor ≡ p → ⊥) → v ≡ work_on r p counts (k + 1)
+  work_elsewhere e n = work_no_more e (rw (ne_eqb _ _ n))
+
+  pub work_uncounted : {v : Tick} → v ≡ work_on r p counts k → counts k ≡ false → v ≡ work_on r p counts (k + 1)
+  work_uncounted e n = work_no_more e (rw n (go (eqb (actor_of r.actors k).processor p)))
+    where
+      go : (b : Bool) → (b && false) ≡ false
+      go true = refl
+      go false = refl
 
 -- the work of the actors on processor p that start from a to b
 abbrev pub work_in : Running → ℕ → ℕ → ℕ → ℕ

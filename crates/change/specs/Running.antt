@@ -1,7 +1,6 @@
 -- A mode as it runs, the front that holds it, and when it is ready for changes.
-use Rattle.std.specs.Prelude.{◌≡◌, List, [], ℕ, ◌*◌, ◌≤◌, ◌<◌, length, get_or}
+use Rattle.std.specs.Prelude.{◌≡◌, List, [], ℕ, ◌*◌, ◌≤◌, ◌<◌, length}
 use Rattle.numbers.specs.Bits.{Has}
-use Rattle.numbers.specs.Joined.{joined}
 use Rattle.numbers.specs.Tab.{tab}
 use Rattle.units.specs.Bounds.{MOST_FIRINGS, MOST_START}
 use Rattle.units.specs.Limits.{ACTORS, ITERATION_LIMIT, MOST_WCET, limit_of}
@@ -12,8 +11,9 @@ use Rattle.tables.specs.Shape.{no_actor, actor_at, Active}
 use Rattle.tables.specs.Proper.{ProperActor}
 use Rattle.tables.specs.Memory.{FRONT_WORDS, head_in, actor_in, times_in}
 use Rattle.change.specs.Change.{ModeTimes, period_in, start_of, Bearable}
+use Rattle.change.specs.declared.Prepared.{Prepared}
 use Rattle.change.specs.declared.Works.{Works}
-use Rattle.change.specs.Work.{actor_of, firings_at, works_at, no_works, work_words}
+use Rattle.change.specs.Work.{actor_of, firings_at, works_at}
 
 -- A mode as it runs: its active actors, their firings, periods and starts, its iteration, the tick set for the sink's first firing, and the tick at which its start-up ends;
 -- and of each actor the works on its processor.
@@ -59,10 +59,6 @@ running_in f =
     prepared_of (head_in f).active (tab ACTORS (actor_in f)) (head_in f).iteration (tab ACTORS (λ i. (times_in f i).firings)) (tab ACTORS (λ i. (times_in f i).period)) (tab ACTORS (λ i. (times_in f i).start))
     (times_in f (head_in f).sink).start (startup_in f)
 
--- the words of its works, actor by actor
-abbrev pub works_words : List ℕ → List ℕ
-works_words f = joined ACTORS (λ i. work_words (get_or (running_in f).works i no_works))
-
 -- the mode and what is planned of it; no rule of a change asks for its channels
 abbrev pub mode_times : Running → ModeTimes
 mode_times r =
@@ -90,9 +86,9 @@ pub record Ready (r : Running) : Type 0 where
   pub load : Bearable limit_of (mode_times r)
   pub works : r.works ≡ tab ACTORS (works_at r.actors r.firings r.starts)
 
--- a front that holds such a mode, with the words of its works
-pub record ReadyFront (front words : List ℕ) : Type 0 where
-  pub long : length front ≡ FRONT_WORDS
-  pub sink : (head_in front).sink < ACTORS
-  pub ready : Ready (running_in front)
-  pub works : words ≡ works_words front
+-- a front that holds such a mode, with its works
+pub record ReadyFront (p : Prepared) : Type 0 where
+  pub long : length p.front.now ≡ FRONT_WORDS
+  pub sink : (head_in p.front.now).sink < ACTORS
+  pub ready : Ready (running_in p.front.now)
+  pub works : p.works.now ≡ (running_in p.front.now).works

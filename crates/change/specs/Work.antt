@@ -1,5 +1,5 @@
 -- The work of a mode's actors in an iteration, summed over those of a processor that start no earlier or no later than one of them.
-use Rattle.std.specs.Prelude.{Bool, cond, ◌&&◌, List, [], ◌∷◌, ℕ, ◌+◌, ◌*◌, eqb, leb, get_or}
+use Rattle.std.specs.Prelude.{Bool, cond, ◌&&◌, List, ℕ, eqb, leb, get_or}
 use Rattle.numbers.specs.Sum.{sum}
 use Rattle.units.specs.Limits.{ACTORS}
 use Rattle.units.specs.Firings.{firing}
@@ -41,17 +41,3 @@ works_of actors firings starts p start =
 -- the same of actor i's processor and its start
 abbrev pub works_at : List Actor → List Firing → List Tick → ℕ → Works
 works_at actors firings starts i = works_of actors firings starts (actor_of actors i).processor (tick_at starts i)
-
--- how many words the works of an actor have, and those of all actors
-abbrev pub WORK_WORDS : ℕ
-WORK_WORDS = 2
-
-abbrev pub WORKS_WORDS : ℕ
-WORKS_WORDS = WORK_WORDS * ACTORS
-
-abbrev pub work_words : Works → List ℕ
-work_words w = w.since.0 ∷ w.until.0 ∷ []
-
--- the works of actor i, as the words of all works hold them
-abbrev pub works_held : List ℕ → ℕ → Works
-works_held l i = record { since = tick (get_or l (WORK_WORDS * i) 0); until = tick (get_or l (WORK_WORDS * i + 1) 0) }

@@ -6,27 +6,25 @@ ghost use Rattle.tables.specs.Memory.{FRONT_WORDS};
 ghost use Rattle.change.specs.Running.{running_in, ReadyFront};
 ghost use Rattle.change.specs.Waits.{Part, overlap_of, wait_of, waits_on, offset_from};
 
-use crate::work::held_at;
+use crate::Prepared;
 use bits::has;
 use numbers::fraction::{Fraction, at_most, plus};
 use tables::memory::{actor_at, head_of, times_at};
-use units::Tick;
 use units::limits::{ACTORS, LOAD_LIMIT};
+use units::{Count, Tick};
 
 // The greatest of 0 and the starts less the new ones, over the actors in both modes.
 pub(crate) fn overlap_of(old: &[u64], new: &[u64]) -> Tick
     requires { (length old.now ≡ FRONT_WORDS) × (length new.now ≡ FRONT_WORDS) }
     ensures { result ≡ overlap_of (running_in old.now) (running_in new.now) }
 {
-    let before = head_of(old);
-    let after = head_of(new);
-    let both = before.active & after.active;
+    let both = head_of(old).active & head_of(new).active;
     let mut most = Tick::NONE;
+    // i is an actor's place, in the set and in both fronts
     for i in 0..ACTORS {
         if has(both, i) {
-            let leaving = times_at(old, i);
-            let entering = times_at(new, i);
-            most = most.greater(leaving.start.minus(entering.start));
+            let lead = times_at(old, i).start.minus(times_at(new, i).start);
+            most = most.greater(lead);
         }
     }
     most
@@ -45,31 +43,25 @@ fn wait(old: Side, new: Side, least: Tick) -> Tick
     ensures { result ≡ greater_tick least (wait_of LOAD_LIMIT old new) }
 {
     let longer = old.start.minus(new.start);
-    if longer.at_most(least) {
-        return least;
-    }
-    if at_most(plus(old.asked, new.asked), LOAD_LIMIT) {
+    if longer.at_most(least) || at_most(plus(old.asked, new.asked), LOAD_LIMIT) {
         return least;
     }
     longer
 }
 
 // How long the new mode waits for an old actor on this processor, and at least so long: the longest that one of its actors there does.
-fn waits(processor: usize, left: Side, new: &[u64], entering: &[u64], least: Tick) -> Tick
-    requires { Part left.asked × ReadyFront new.now entering.now }
-    ensures { result ≡ greater_tick least (tick (waits_on limit_of processor left (running_in new.now))) }
+fn waits(processor: usize, left: Side, new: Prepared, least: Tick) -> Tick
+    requires { Part left.asked × ReadyFront new }
+    ensures { result ≡ greater_tick least (tick (waits_on limit_of processor left (running_in new.entry.front.now))) }
 {
-    let head = head_of(new);
+    let iteration = head_of(new.front).iteration;
     let mut most = least;
+    // j is an actor's place, in the front and among the works
     for j in 0..ACTORS {
-        let actor = actor_at(new, j);
-        if actor.processor == processor {
-            let times = times_at(new, j);
-            let start = times.start;
-            let works = held_at(entering, j);
+        if actor_at(new.front, j).processor == processor {
             let entered = Side {
-                start: start,
-                asked: period::share(works.until, head.iteration),
+                start: times_at(new.front, j).start,
+                asked: period::share(new.works[j].until, iteration),
             };
             most = wait(left, entered, most);
         }
@@ -79,29 +71,21 @@ fn waits(processor: usize, left: Side, new: &[u64], entering: &[u64], least: Tic
 
 // How long the new mode waits for the old one, and at least so long: the longest that it waits for one of the old actors.
 // One that starts no later than what is reached is passed over.
-pub(crate) fn offset_of(
-    old: &[u64],
-    leaving: &[u64],
-    new: &[u64],
-    entering: &[u64],
-    least: Tick,
-) -> Tick
-    requires { ReadyFront old.now leaving.now × ReadyFront new.now entering.now }
-    ensures { result ≡ offset_from limit_of (running_in old.now) (running_in new.now) least }
+pub(crate) fn offset_of(old: Prepared, new: Prepared, least: Tick) -> Tick
+    requires { ReadyFront old × ReadyFront new }
+    ensures { result ≡ offset_from limit_of (running_in old.entry.front.now) (running_in new.entry.front.now) least }
 {
-    let head = head_of(old);
+    let iteration = head_of(old.front).iteration;
     let mut most = least;
+    // i is an actor's place, in the front and among the works
     for i in 0..ACTORS {
-        let times = times_at(old, i);
-        let start = times.start;
+        let start = times_at(old.front, i).start;
         if !start.at_most(most) {
-            let actor = actor_at(old, i);
-            let works = held_at(leaving, i);
             let left = Side {
-                start: start,
-                asked: period::share(works.since, head.iteration),
+                start,
+                asked: period::share(old.works[i].since, iteration),
             };
-            most = waits(actor.processor, left, new, entering, most);
+            most = waits(actor_at(old.front, i).processor, left, new, most);
         }
     }
     most

@@ -1,9 +1,10 @@
 -- How great the numbers of one channel become: all fit.
-use Rattle.std.specs.Prelude.{refl, ◌≡◌, cond, List, eqb, length, get_or}
-use Rattle.std.proofs.Common.{sym, ap, ap₂, ◌∙◌, div-le_self, mul-le-mul, mul-le-mul_right, div-mul-le_self, le_refl, le_of_lt, add-zero, sub-le, arith}
+use Rattle.std.specs.Prelude.{refl, ◌≡◌, List, length, get_or}
+use Rattle.std.specs.List.{All}
+use Rattle.std.proofs.Common.{sym, ap, ap₂, ◌∙◌, div-le_self, mul-le-mul, mul-le-mul_right, div-mul-le_self, le_refl, le_of_lt, add-zero, sub-le, get_or-take, arith}
 use Prim.Native.Nat.{ℕ, ◌+◌, ◌*◌, ◌/◌, ◌^◌, ◌≤◌, ◌<◌, zero-le}
 use Rattle.std.proofs.Math.Nat.{le_trans, le_of_dvd, zero-max, max-le}
-use Rattle.numbers.specs.Extreme.{most_same, most_within}
+use Rattle.numbers.specs.Extreme.{most_within}
 use Rattle.numbers.specs.Sum.{sum_next}
 use Rattle.numbers.specs.Reckoned.{gcd_of_law}
 use Rattle.units.specs.declared.Tick.{Tick}
@@ -20,16 +21,10 @@ use Rattle.rate.specs.Pace.{IsStep, step_unique}
 use Rattle.rate.specs.Rate.{rate_of, tokens_of}
 use Rattle.channel.specs.declared.End.{End}
 use Rattle.channel.specs.declared.pace.Pace.{Pace}
-use Rattle.channel.specs.declared.waits.Mark.{Mark}
-use Rattle.channel.specs.declared.claims.Hold.{Hold}
+use Rattle.channel.specs.declared.pair.Phase.{Phase}
 use Rattle.channel.specs.Flow.{rates_of, Proper, Paced, cycle_tokens, cycle_ticks}
-use Rattle.channel.specs.Phases.{step_of, pace_of, give_of, give_at, take_of, take_at, wait_of, latest_of, start_of, claiming_at, back_at, claim_of, greatest_of, present, size_of, claiming_of, back_of, cycles_of}
-use Rattle.channel.specs.Words.{PHASES_WORDS, phases_over, mark_words, mark_of, mark_in, hold_words, hold_of, hold_in, Noted, phase_put, phases_put}
-use Rattle.channel.specs.Laws.{rate_at, tokens_most, cycle_p, cycle_c, in_step}
-
--- an end of its parts
-abbrev pub end_of : List ℕ → Tick → ℕ → End
-end_of rates period n = record { phases = n; rates = rates; period = period }
+use Rattle.channel.specs.Phases.{Mark, Hold, step_of, pace_of, give_of, give_at, take_of, latest_of, start_of, claiming_at, back_at, greatest_of, present, size_of, claiming_of, back_of, cycles_of, listed, listed_all}
+use Rattle.channel.specs.Laws.{rate_at, rates_long, tokens_most, cycle_p, cycle_c, in_step, size_is}
 
 -- the cycles of the producer that are added
 abbrev pub MOST_ADDED : ℕ
@@ -67,8 +62,8 @@ pub record Early (t : Tick) (n : Token) : Type 0 where
 
 -- a mark whose ticks are no more than tokens last
 pub record Near (m : Mark) : Type 0 where
-  pub later : m.later.0 ≤ MOST_LASTING.0
-  pub sooner : m.sooner.0 ≤ MOST_LASTING.0
+  pub more : m.more.0 ≤ MOST_LASTING.0
+  pub less : m.less.0 ≤ MOST_LASTING.0
 
 -- what a size is reckoned with: a pace with some cycles of the producer
 pub record Long (w : Pace) : Type 0 where
@@ -80,7 +75,18 @@ pub record Long (w : Pace) : Type 0 where
 -- and a hold whose tokens are no more than are moved
 pub record Few (h : Hold) : Type 0 where
   pub more : h.more.0 ≤ MOST_MOVING.0
-  pub fewer : h.fewer.0 ≤ MOST_MOVING.0
+  pub less : h.less.0 ≤ MOST_MOVING.0
+
+-- a phase with which a pair can be reckoned: marks that are near are such, and holds that are few
+pub record Small {A B : Type 0} (number : A → ℕ) (p : Phase A B) : Type 0 where
+  pub more : number p.more < 2 ^ 62
+  pub less : number p.less < 2 ^ 62
+
+pub near_small : (m : Mark) → Near m → Small (λ t. t.0) m
+near_small m h = record { more = omega (arith, h.more); less = omega (arith, h.less) }
+
+pub few_small : (h : Hold) → Few h → Small (λ k. k.0) h
+few_small h f = record { more = omega (arith, f.more); less = omega (arith, f.less) }
 
 pub cycle_most : (e : End) → Proper e → (cycle_tokens e).0 ≤ MOST_TOKENS.0
 cycle_most e h = le_trans (tokens_most e h e.phases (le_refl e.phases)) (mul-le-mul_right MOST_RATE.0 h.phases)
@@ -98,15 +104,15 @@ module _ (w : Pace) (t : Tick) (n : Token) (h : Short w) (e : Early t n) where
   pub give_near : Near (give_of w t n)
   give_near =
       record {
-        later = omega (arith, e.at);
-        sooner = omega (arith, mul-le-mul (le_trans (div-le_self n.0 w.step.tokens.0) e.tokens) h.step);
+        more = omega (arith, e.at);
+        less = omega (arith, mul-le-mul (le_trans (div-le_self n.0 w.step.tokens.0) e.tokens) h.step);
       }
 
   pub take_near : Near (take_of w t n)
   take_near =
       let few : (n.0 + w.tokens.0) / w.step.tokens.0 ≤ MOST_TOKENS.0 + 1 + MOST_TOKENS.0 =
       le_trans (div-le_self (n.0 + w.tokens.0) w.step.tokens.0) (omega (arith, e.tokens, h.tokens)) in
-      record { later = omega (arith, mul-le-mul few h.step); sooner = omega (arith, e.at, h.ticks) }
+      record { more = omega (arith, mul-le-mul few h.step); less = omega (arith, e.at, h.ticks) }
 
 -- the phases of an end: what they move, and when they begin and end
 module _ (e : End) (h : Proper e) where
@@ -116,7 +122,7 @@ module _ (e : End) (h : Proper e) where
   pub rate_by : (k : ℕ) → k < e.phases → get_or e.rates k 0 ≤ MOST_RATE.0
   rate_by k l = h.rates k (omega (arith, h.phases))
 
-  -- one phase more, as a loop counts: its tokens fit, and are those of so many phases
+  -- one phase more: its tokens fit, and are those of so many phases
   pub tokens_fit : (k : ℕ) {made m : Token} → k < e.phases → made ≡ tokens_of (rates_of e) (firing k) → m ≡ token (get_or e.rates k 0) → (plus_tokens made m).0 < 2 ^ 64
   tokens_fit k l em er = omega (arith, tokens_by k (le_of_lt l), ap (λ (x : Token). x.0) em, rate_by k l, ap (λ (x : Token). x.0) er)
 
@@ -124,6 +130,23 @@ module _ (e : End) (h : Proper e) where
       → r ≡ tokens_of (rates_of e) (firing (k + 1))
   tokens_next k l em er eq =
       eq ∙ ap₂ plus_tokens em (er ∙ (λ i. token (sym (rate_at e h k l) i))) ∙ (λ i. token (sym (sum_next (rate_of (rates_of e)) k) i))
+
+  -- the same as a loop goes over the end's rates r, of which one more is a phase of the end
+  module _ {r : List ℕ} (er : r ≡ rates_of e) (k : ℕ) (l : k < length r) where
+    pub is_phase : k < e.phases
+    is_phase = omega (arith, ap (λ (x : List ℕ). length x) er, rates_long e h)
+
+    rate_is : get_or r k 0 ≡ get_or e.rates k 0
+    rate_is = ap (λ (x : List ℕ). get_or x k 0) er ∙ get_or-take e.phases e.rates k 0 is_phase
+
+    pub rate_here : rate_of (rates_of e) k ≡ get_or r k 0
+    rate_here = rate_at e h k is_phase ∙ sym rate_is
+
+    pub fit_here : {made m : Token} → made ≡ tokens_of (rates_of e) (firing k) → m ≡ token (get_or r k 0) → (plus_tokens made m).0 < 2 ^ 64
+    fit_here em et = tokens_fit k is_phase em (et ∙ (λ i. token (rate_is i)))
+
+    pub next_here : {made m n : Token} → made ≡ tokens_of (rates_of e) (firing k) → m ≡ token (get_or r k 0) → n ≡ plus_tokens made m → n ≡ tokens_of (rates_of e) (firing (k + 1))
+    next_here em et = tokens_next k is_phase em (et ∙ (λ i. token (rate_is i)))
 
 pub ends_by : (e : End) (s : ℕ) → Brief e → s < e.phases → (s + 1) * e.period.0 ≤ ITERATION_LIMIT.0
 ends_by e s h l = omega (arith, h.cycle, mul-le-mul_right e.period.0 l)
@@ -137,10 +160,8 @@ module _ (e : End) (s : ℕ) (h : Brief e) (l : s < e.phases) where
   take_early = record { at = omega (arith, ends_by e s h l); tokens = omega (arith, tokens_by e h.proper (s + 1) (omega arith)) }
 
 -- the marks of the producer's phases are near
-pub gives_ready : (p : End) (sp : Tick) (w : Pace) (l : List ℕ) {m : List ℕ} → Brief p → sp.0 ≤ MOST_START.0 → Short w → length l ≡ PHASES_WORDS
-    → m ≡ phases_over mark_words p.phases (give_at 0 w p sp) l → Noted Near (mark_in m) m p.phases
-gives_ready p sp w l h b q long e =
-    phases_put _ (λ s. refl) p.phases l e mark_of Near long h.proper.phases (λ s r. give_near w _ _ q (give_early p s h r sp b))
+pub gives_ready : (p : End) (sp : Tick) (w : Pace) → Brief p → sp.0 ≤ MOST_START.0 → Short w → All Near (listed p.phases (give_at 0 w p sp))
+gives_ready p sp w h b q = listed_all _ Near p.phases (λ s r. give_near w _ _ q (give_early p s h r sp b))
 
 pub pace_short : (p c : End) → Paced p c → Short (pace_of p c 1)
 pace_short p c w =
@@ -152,27 +173,24 @@ pace_short p c w =
     }
 
 -- the start from the marks
-pub start_from : (p : End) (sp : Tick) (c : End) (w : Pace) (l : List ℕ) {m : List ℕ} → w ≡ pace_of p c 1
-    → m ≡ phases_over mark_words p.phases (give_at 0 w p sp) l → latest_of (mark_in m) p.phases w c ≡ start_of 0 p sp c
+pub start_from : (p : End) (sp : Tick) (c : End) (w : Pace) {l : List Mark} → w ≡ pace_of p c 1
+    → l ≡ listed p.phases (give_at 0 w p sp) → latest_of l w c ≡ start_of 0 p sp c
 unfolding start_of
-start_from p sp c w l e g =
-    (λ i. tick (most_same _ _ c.phases (λ f hf. ap (λ (v : ℕ). cond (eqb (rate_of (rates_of c) f) 0) 0 v)
-    (most_same _ _ p.phases (λ s hs. ap (λ (m : Mark). (wait_of w.step.ticks m (take_at w c f)).0) (phase_put _ (λ s. refl) p.phases l g mark_of s hs)))) i))
-    ∙ ap (λ (w : Pace). latest_of (give_at 0 w p sp) p.phases w c) e
+start_from p sp c w e g = rw (g, e)
 
 module _ (w : Pace) (t : Tick) (n : Token) (h : Long w) (e : Early t n) where
   pub claiming_few : Few (claiming_of w t n)
   claiming_few =
       record {
         more = omega (arith, e.tokens);
-        fewer = omega (arith, mul-le-mul (le_trans (div-le_self t.0 w.step.ticks.0) e.at) h.common);
+        less = omega (arith, mul-le-mul (le_trans (div-le_self t.0 w.step.ticks.0) e.at) h.common);
       }
 
   pub back_few : Few (back_of w t n)
   back_few =
       let less : (t.0 + w.ticks.0) / w.step.ticks.0 ≤ MOST_START.0 + ITERATION_LIMIT.0 + 1 + MOST_SPAN.0 =
       le_trans (div-le_self (t.0 + w.ticks.0) w.step.ticks.0) (omega (arith, e.at, h.ticks)) in
-      record { more = omega (arith, mul-le-mul less h.common); fewer = omega (arith, e.tokens, h.tokens) }
+      record { more = omega (arith, mul-le-mul less h.common); less = omega (arith, e.tokens, h.tokens) }
 
 module _ (e : End) (s : ℕ) (h : Brief e) (l : s < e.phases) (start : Tick) (b : start.0 ≤ MOST_START.0) where
   pub claiming_early : Early (plus_ticks (begins_at start e.period (firing s)) (tick 1)) (tokens_of (rates_of e) (firing (s + 1)))
@@ -182,10 +200,8 @@ module _ (e : End) (s : ℕ) (h : Brief e) (l : s < e.phases) (start : Tick) (b 
   back_early = record { at = omega (arith, b, ends_by e s h l); tokens = omega (arith, tokens_by e h.proper s (le_of_lt l)) }
 
 -- the holds of the producer's phases are few
-pub claims_ready : (p : End) (sp : Tick) (w : Pace) (l : List ℕ) {m : List ℕ} → Brief p → sp.0 ≤ MOST_START.0 → Long w → length l ≡ PHASES_WORDS
-    → m ≡ phases_over hold_words p.phases (claiming_at w p sp) l → Noted Few (hold_in m) m p.phases
-claims_ready p sp w l h b q long e =
-    phases_put _ (λ s. refl) p.phases l e hold_of Few long h.proper.phases (λ s r. claiming_few w _ _ q (claiming_early p s h r sp b))
+pub claims_ready : (p : End) (sp : Tick) (w : Pace) → Brief p → sp.0 ≤ MOST_START.0 → Long w → All Few (listed p.phases (claiming_at w p sp))
+claims_ready p sp w h b q = listed_all _ Few p.phases (λ s r. claiming_few w _ _ q (claiming_early p s h r sp b))
 
 module _ (p : End) (sp : Tick) (c : End) (w : Paced p c) (b : sp.0 ≤ MOST_START.0) where
   pub cycles_add : Adds p (cycles_of p sp)
@@ -206,22 +222,19 @@ module _ (p : End) (sp : Tick) (c : End) (w : Paced p c) (b : sp.0 ≤ MOST_STAR
 
 -- the size from the holds
 present_none : (h : Hold) → present 0 h ≡ h
-present_none h = λ i. record { more = token (add-zero h.more.0 i); fewer = h.fewer; rest = h.rest }
+present_none h = λ i. record { more = token (add-zero h.more.0 i); less = h.less; rest = h.rest }
 
-pub size_from : (p : End) (sp : Tick) (c : End) (sc : Tick) (w : Pace) (l : List ℕ) {m : List ℕ} → w ≡ pace_of p c (cycles_of p sp)
-    → m ≡ phases_over hold_words p.phases (claiming_at w p sp) l → greatest_of (hold_in m) p.phases w c sc ≡ size_of 0 p sp c sc
+pub size_from : (p : End) (sp : Tick) (c : End) (sc : Tick) (w : Pace) {l : List Hold} → w ≡ pace_of p c (cycles_of p sp)
+    → l ≡ listed p.phases (claiming_at w p sp) → greatest_of l w c sc ≡ size_of 0 p sp c sc
 unfolding size_of
-size_from p sp c sc w l e g =
-    (λ i. token (most_same _ _ c.phases (λ f hf. most_same _ _ p.phases (λ s hs.
-    ap (λ (h : Hold). (claim_of w.step.tokens h (back_at w c sc f)).0) (phase_put _ (λ s. refl) p.phases l g hold_of s hs ∙ sym (present_none (claiming_at w p sp s))))) i))
-    ∙ ap (λ (w : Pace). greatest_of (λ s. present 0 (claiming_at w p sp s)) p.phases w c sc) e
-    ∙ (λ i. token (sym (zero-max (greatest_of (λ s. present 0 (claiming_at (pace_of p c (cycles_of p sp)) p sp s)) p.phases (pace_of p c (cycles_of p sp)) c sc).0) i))
+size_from p sp c sc w e g =
+    rw (g, e) (let v : Pace = pace_of p c (cycles_of p sp) in
+    (λ i. greatest_of (listed p.phases (λ s. sym (present_none (claiming_at v p sp s)) i)) v c sc) ∙ (λ i. token (sym (zero-max (greatest_of (listed p.phases (λ s. present 0 (claiming_at v p sp s))) v c sc).0) i)))
 
 -- sizes are no greater
 module _ (p : End) (sp : Tick) (c : End) (sc : Tick) (w : Paced p c) (b : sp.0 ≤ MOST_START.0) (b' : sc.0 ≤ MOST_START.0) where
   pub size_few : (size_of 0 p sp c sc).0 ≤ MOST_SIZE.0
-  unfolding size_of
-  size_few = max-le zero-le (most_within _ _ c.phases (λ f hf. most_within _ _ p.phases (λ s hs. le_trans (sub-le _ _) (few f s hf hs))))
+  size_few = rw (size_is p c w 0 sp sc) (max-le zero-le (most_within _ _ c.phases (λ f hf. most_within _ _ p.phases (λ s hs. le_trans (sub-le _ _) (few f s hf hs)))))
     where
       pace : Pace
       pace = pace_of p c (cycles_of p sp)

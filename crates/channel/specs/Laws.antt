@@ -7,7 +7,7 @@ use Rattle.std.proofs.Math.Nat.{le_trans, mul-le-mul_right, lt-div-mul-add, div-
 use native.Mathlib.Omega.{arith}
 use Rattle.std.proofs.Math.Decide.{dec_le}
 use Rattle.std.proofs.lemmas.Bool.{eqb-false}
-use Rattle.numbers.specs.Extreme.{ExactlyFirst, most_of, most_above, most_at, most_within}
+use Rattle.numbers.specs.Extreme.{ExactlyFirst, most_of, most_above, most_at, most_within, most_same}
 use Rattle.numbers.specs.Reckoned.{gcd_of_law}
 use Rattle.numbers.specs.Sum.{sum, sum_more, sum_most, sum_next}
 use Rattle.units.specs.declared.Tick.{Tick}
@@ -19,7 +19,7 @@ use Rattle.channel.specs.declared.End.{End}
 use Rattle.channel.specs.Flow.{rates_of, cycle_tokens, cycle_ticks, Proper, Paced}
 use Rattle.channel.specs.Cycles.{Matched, matched, factor_pos}
 use Rattle.channel.specs.Pairs.{FedBy, ClaimedBy, wait_for, claim_for, beyond_quotient, wait_needed, wait_enough, claim_met, claim_most}
-use Rattle.channel.specs.Phases.{step_of, pace_of, give_at, take_at, wait_of, start_of, claiming_at, back_at, claim_of, cycles_of, size_of, present}
+use Rattle.channel.specs.Phases.{step_of, pace_of, give_at, take_at, wait_of, start_of, claiming_at, back_at, claim_of, cycles_of, size_of, present, most_listed}
 
 -- the rates of an end, one for each phase, go round
 module _ (e : End) (h : Proper e) where
@@ -119,10 +119,14 @@ module _ (p c : End) (w : Paced p c) where
         (sp.0 + (s + 1) * p.period.0) (0 + f * c.period.0 + (x + 1) * (cycle_ticks p).0) (in_step (x + 1)).some_g
         (omega (arith, cycles_more, sum_more rp s p.phases (le_of_lt hs), sum_next rc f)) ∙ omega arith
 
+    -- the longest wait over all pairs
+    start_is : (start_of x p sp c).0 ≡ most_of (λ f. cond (eqb (rc f) 0) 0 (most_of (λ s. (wait_of (pace_of p c (x + 1)).step.ticks (give_at x (pace_of p c (x + 1)) p sp s) (take_at (pace_of p c (x + 1)) c f)).0) p.phases)) c.phases
+    unfolding start_of
+    start_is = most_same _ _ c.phases (λ f hf. ap (cond (eqb (rc f) 0) 0) (most_listed _ _ p.phases))
+
     -- THE START: the rule for ever is one bound
     pub start_iff : (sc : ℕ) → FedWith x p sp c (tick sc) ↔ ((start_of x p sp c).0 ≤ sc)
-    unfolding start_of
-    start_iff sc = (
+    start_iff sc = rw start_is (
       (λ fed. most_within _ sc c.phases (λ f hf. gate_within (rc f) _ sc (λ pos. most_within _ sc p.phases (λ s hs.
           le_trans (le_of_eq (wait_is f s hs pos))
           (wait_needed rp rc p.phases c.phases p.period.0 c.period.0 (rates_round p w.producer) (rates_round c w.consumer)
@@ -135,9 +139,8 @@ module _ (p c : End) (w : Paced p c) where
 
     -- it is never more than a cycle of each end after the producer's
     pub start_near : (start_of x p sp c).0 ≤ sp.0 + (cycle_ticks p).0 + (cycle_ticks c).0
-    unfolding start_of
-    start_near = most_within _ _ c.phases (λ f hf. gate_within (rc f) _ _ (λ pos. most_within _ _ p.phases (λ s hs.
-        le_trans (le_of_eq (wait_is f s hs pos)) (near f s hf hs))))
+    start_near = rw start_is (most_within _ _ c.phases (λ f hf. gate_within (rc f) _ _ (λ pos. most_within _ _ p.phases (λ s hs.
+        le_trans (le_of_eq (wait_is f s hs pos)) (near f s hf hs)))))
       where
         near : (f s : ℕ) → f < c.phases → s < p.phases → wait f s ≤ sp.0 + (cycle_ticks p).0 + (cycle_ticks c).0
         near f s hf hs =
@@ -171,23 +174,27 @@ module _ (p c : End) (w : Paced p c) where
         (sum rp (s + 1) + x) (sum rc f + K * (cycle_tokens p).0) (in_step K).some_G
         (omega (arith, ticks_more, period_p, mul-le-mul_right p.period.0 hs))
 
+    abbrev row : ℕ → ℕ → ℕ
+    row f s = (claim_of (step_of p c).tokens (present x (claiming_at (pace_of p c K) p sp s)) (back_at (pace_of p c K) c sc f)).0
+
+    -- the most claims over all pairs
+    pub size_is : (size_of x p sp c sc).0 ≡ max x (most_of (λ f. most_of (row f) p.phases) c.phases)
+    unfolding size_of
+    size_is = ap (max x) (most_same _ _ c.phases (λ f hf. most_listed _ _ p.phases))
+
     -- THE SIZE: at no tick are more places claimed
     pub size_most : (t v : ℕ) → ClaimedWith x p sp c sc t v → v ≤ (size_of x p sp c sc).0
-    unfolding size_of
     size_most t v z =
-        claim_most rp rc p.phases c.phases p.period.0 c.period.0 (rates_round p w.producer) (rates_round c w.consumer)
+        rw size_is (claim_most rp rc p.phases c.phases p.period.0 c.period.0 (rates_round p w.producer) (rates_round c w.consumer)
         w.producer.some w.consumer.some period_p period_c x K sp.0 _ _ (in_step K) sc.0 _ (le-max_left x _)
         (λ f s hf hs. le_trans (le_of_eq (sym (claim_is f s hs)))
-        (le_trans (most_above _ p.phases s hs) (le_trans (most_above _ c.phases f hf) (le-max_right x _)))) t v z
+        (le_trans (most_above _ p.phases s hs) (le_trans (most_above _ c.phases f hf) (le-max_right x _)))) t v z)
 
     -- and at some tick as many
     pub size_met : (t : ℕ) × ((v : ℕ) → ClaimedWith x p sp c sc t v → (size_of x p sp c sc).0 ≤ v)
-    unfolding size_of sum
-    size_met = go (dec_le most x)
+    unfolding sum
+    size_met = rw size_is (go (dec_le most x))
       where
-        row : ℕ → ℕ → ℕ
-        row f s = (claim_of (step_of p c).tokens (present x (claiming_at (pace_of p c K) p sp s)) (back_at (pace_of p c K) c sc f)).0
-
         most : ℕ
         most = most_of (λ f. most_of (row f) p.phases) c.phases
 

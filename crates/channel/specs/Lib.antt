@@ -3,6 +3,5 @@ pub mod Flow
 pub mod Cycles
 pub mod Pairs
 pub mod Phases
-pub mod Words
 pub mod Laws
 pub mod Bounds

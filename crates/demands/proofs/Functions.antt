@@ -52,7 +52,7 @@ pub request_asks_nothing : (κs : Lfts 1) (a : Dens κs request_kinds.ps) → re
 request_asks_nothing κs a = tt
 
 pub request_promises : (κs : Lfts 1) (a : Dens κs request_kinds.ps) (x : (res_t request_kinds.r κs).Denot) (s : AtExit (ended_of 1 request_kinds.ps request_kinds.r) κs)
-    → request.Post κs a x s → Answers a.1.0.now a.0 a.1.1.0 a.1.1.1.0 x
+    → request.Post κs a x s → Answers a.1.0.now a.0 a.1.1.0 a.1.1.1.0 x.reply x.machine
 request_promises κs a x s p = p
 
 -- stellarsnare_plan

@@ -1,24 +1,26 @@
 -- The two ends that are found: the actors without incoming and without outgoing channels. Assumes nothing.
-use mathlib.Core.Path.{◌≡◌, refl, ap}
+use mathlib.Core.Path.{◌≡◌, refl, sym, ap, subst, ◌∙◌}
 use mathlib.Core.Bool.{Bool, true, false, not, cond, ◌&&◌}
 use mathlib.Core.List.{List}
+use Rattle.std.specs.Prelude.{None, Some, find}
+use Rattle.std.specs.List.{range_with_len}
+use Rattle.std.proofs.lemmas.Option.{none-some, same_Some}
 use mathlib.Core.Logic.{inl, inr, ⊎_elim, ◌↔◌}
-use Prim.Native.Nat.{ℕ, zero, suc, ◌+◌, ◌<◌, zero-le}
-use native.Mathlib.Nat.{lt-suc_self, not-suc-le-zero, le_of_suc-le-suc, eq-or-lt_of_le}
+use Prim.Native.Nat.{ℕ, zero, suc, ◌+◌, ◌<◌, ◌≤◌, zero-le}
+use native.Mathlib.Nat.{le_refl, lt-suc_self, not-suc-le-zero, le_of_suc-le-suc, eq-or-lt_of_le}
 use native.Mathlib.Numerals.{add-one}
 use native.Mathlib.Omega.{arith}
-use borrow.Author.Tests.{eq-eqb, ne_eqb}
+use borrow.Author.Tests.{eq-eqb, ne_eqb, eqb-true}
 use lib.Bits.{bit_or}
 use lib.Dec.{eqb}
 use lib.ListN.{get_or}
 use Rattle.numbers.specs.Bits.{bit, Has, hasb, size, adding, has_decides, has_adding, has_or, bit_zero, empty, size_one, one_size}
 use Rattle.numbers.specs.Decides.{Decides, decides_and, decides_not, decides_eqb, decides_true, decides_false}
-use Rattle.numbers.specs.Lowest.{lowest_is}
 use Rattle.units.specs.Limits.{ACTORS}
 use Rattle.tables.specs.Shape.{Mode}
 use Rattle.tables.specs.Proper.{ProperMode}
-use Rattle.graph.specs.Ends.{IsSource, IsSink, Only, Ends, NoEnds}
-use Rattle.graph.specs.Rounds.{preds_of, chosen, firsts_of, givers_from, lasts_of, lowest_of}
+use Rattle.graph.specs.Ends.{IsSource, IsSink, Only, NoEnds}
+use Rattle.graph.specs.Rounds.{preds_of, chosen, firsts_of, givers_from, lasts_of, only_of}
 use Rattle.graph.proofs.Sorted.{preds_joins, to_active}
 
 -- the actors of a mode that are found to be without incoming, and without outgoing, channels
@@ -39,7 +41,7 @@ givers_next ps n = rw add-one
 
 -- the chosen are the active actors with the property that the test decides
 module _ (f : ℕ → Bool) (P : ℕ → Type 0) (decides : (i : ℕ) → Decides (P i) (f i)) (active : ℕ) where
-  chosen_has : (n i : ℕ) → Has (chosen f active n) i ↔ ((i < n) × Has active i × P i)
+  pub chosen_has : (n i : ℕ) → Has (chosen f active n) i ↔ ((i < n) × Has active i × P i)
   unfolding chosen
   chosen_has zero i = ((λ h. absurd (omega (arith, bit_zero i))), (λ w. absurd (not-suc-le-zero w.0)))
   chosen_has (suc n) i = go (hasb active n && f n) refl (chosen_has n i)
@@ -67,22 +69,38 @@ givers_has ps (suc n) j = (
       (⊎_elim (λ (q : i ≡ n). inr (rw (← q) z)) (λ (b : i < n). inl ((givers_has ps n j).1 (i, b, z))) (eq-or-lt_of_le (le_of_suc-le-suc l)))),
 )
 
--- a set of the actors with a property: its size is 1 exactly when one actor only has it
-module _ (s : ℕ) (P : ℕ → Type 0) (has : (i : ℕ) → Has s i ↔ P i) (below : (i : ℕ) → P i → i < ACTORS) where
-  only_lowest : size ACTORS s ≡ 1 → Only P (lowest_of s)
-  only_lowest e =
-      let (i, l, y, u) = size_one ACTORS s e in
-      let lowest : lowest_of s ≡ i
-      = lowest_is (hasb s) 0 ACTORS 0 i (record {
-        from = zero-le;
-        below = omega arith;
-        passes = eq-eqb _ _ y;
-        first = λ j a b. ne_eqb _ _ (λ (h : Has s j). omega (arith, u j (omega arith) h));
-      }) in
-      rw lowest ((has i).0 y, λ j p. u j (below j p) ((has j).1 p))
+-- the only number of a range that passes is found
+find_only : (f : ℕ → Bool) (k i j : ℕ) → i ≤ j → j < i + k → f j ≡ true → ((l : ℕ) → i ≤ l → l < j → f l ≡ false) → find f (range_with_len i k) ≡ Some j
+find_only f zero i j a b e n = absurd (omega arith)
+find_only f (suc k) i j a b e n =
+    ⊎_elim (λ (q : i ≡ j). rw (q, e))
+    (λ (l : i < j). rw (n i (le_refl i) l) (find_only f k (i + 1) j (omega arith) (omega arith) e (λ l c d. n l (omega arith) d))) (eq-or-lt_of_le a)
 
-  only_size : (i : ℕ) → Only P i → size ACTORS s ≡ 1
-  only_size i (p, u) = one_size ACTORS s i (below i p) ((has i).1 p) (λ j l h. u j ((has j).0 h))
+-- of the set of the actors with a property, one is found exactly where it alone has the property
+module _ (s : ℕ) (P : ℕ → Type 0) (has : (i : ℕ) → Has s i ↔ P i) (below : (i : ℕ) → P i → i < ACTORS) where
+  size_only : size ACTORS s ≡ 1 → (i : ℕ) × (only_of s ≡ Some i) × Only P i
+  size_only e =
+      let (i, l, y, u) = size_one ACTORS s e in (
+        i,
+        rw (eq-eqb _ _ e) (find_only (hasb s) ACTORS 0 i zero-le l (eq-eqb _ _ y) (λ j a b. ne_eqb _ _ (λ (h : Has s j). omega (arith, u j (omega arith) h)))),
+        ((has i).0 y, λ j p. u j (below j p) ((has j).1 p)),
+      )
+
+  only_found : (i : ℕ) → only_of s ≡ Some i → Only P i
+  only_found i e =
+      let (j, f, only) = size_only (eqb-true _ _ (cond_size e)) in subst (Only P) (same_Some _ _ (sym f ∙ e)) only
+    where
+      cond_size : only_of s ≡ Some i → eqb (size ACTORS s) 1 ≡ true
+      cond_size = go (eqb (size ACTORS s) 1)
+        where
+          go : (b : Bool) → cond b (find (hasb s) (range_with_len 0 ACTORS)) None ≡ Some i → b ≡ true
+          go true e = refl
+          go false e = absurd (none-some i e)
+
+  only_none : only_of s ≡ None → (i : ℕ) → Only P i → ⊥
+  only_none e i (p, u) =
+      let (j, f, only) = size_only (one_size ACTORS s i (below i p) ((has i).1 p) (λ j l h. u j ((has j).0 h))) in
+      none-some j (sym e ∙ f)
 
 module _ (m : Mode) (proper : ProperMode m) where
   firsts_are : (i : ℕ) → Has (firsts m) i ↔ IsSource m i
@@ -100,9 +118,15 @@ module _ (m : Mode) (proper : ProperMode m) where
         (λ (l, a, n). has.1 (l, a, λ g. let (j, b, y) = (givers_has (preds_of m) ACTORS i).0 g in n j ((preds_joins m proper j i b).0 y))),
       )
 
-  pub ends_found : size ACTORS (firsts m) ≡ 1 → size ACTORS (lasts m) ≡ 1
-      → Ends m (lowest_of (firsts m)) (lowest_of (lasts m))
-  ends_found f l = (only_lowest (firsts m) (IsSource m) firsts_are (λ i p. p.0) f, only_lowest (lasts m) (IsSink m) lasts_are (λ i p. p.0) l)
+  -- the ends of a mode, where both are found
+  pub source_found : (i : ℕ) → only_of (firsts m) ≡ Some i → Only (IsSource m) i
+  source_found = only_found (firsts m) (IsSource m) firsts_are (λ i p. p.0)
 
-  pub ends_none : ((size ACTORS (firsts m) ≡ 1) × (size ACTORS (lasts m) ≡ 1) → ⊥) → NoEnds m
-  ends_none n s t (f, l) = n (only_size (firsts m) (IsSource m) firsts_are (λ i p. p.0) s f, only_size (lasts m) (IsSink m) lasts_are (λ i p. p.0) t l)
+  pub sink_found : (i : ℕ) → only_of (lasts m) ≡ Some i → Only (IsSink m) i
+  sink_found = only_found (lasts m) (IsSink m) lasts_are (λ i p. p.0)
+
+  pub source_none : only_of (firsts m) ≡ None → NoEnds m
+  source_none e s t w = only_none (firsts m) (IsSource m) firsts_are (λ i p. p.0) e s w.0
+
+  pub sink_none : only_of (lasts m) ≡ None → NoEnds m
+  sink_none e s t w = only_none (lasts m) (IsSink m) lasts_are (λ i p. p.0) e t w.1

@@ -2,9 +2,11 @@
 use mathlib.Core.Path.{◌≡◌, refl, sym, ap, subst, ◌∙◌}
 use mathlib.Core.Bool.{Bool, true, false, cond}
 use mathlib.Core.List.{List}
+use Rattle.std.specs.Prelude.{Option, None, Some, option_and_then}
+use Rattle.std.proofs.lemmas.Option.{none-some}
 use mathlib.Core.Logic.{◌⊎◌, inl, inr, ⊎_elim}
 use Prim.Native.Nat.{ℕ, zero, suc, ◌+◌, ◌*◌, ◌≤◌, ◌<◌, ◌∣◌, zero-le}
-use native.Mathlib.Nat.{le_refl, le_step, le_of_suc-le-suc, lt-suc_self, lt_of_lt_of_le, eq-or-lt_of_le, not-suc-le-zero, le_of_dvd, dvd_trans, dvd-mul_left, mul-pos, mul-le-mul, le-mul_of_pos_right, zero-mul, mul_comm, pos_of_ne-zero}
+use native.Mathlib.Nat.{le_refl, le_step, lt-suc_self, lt_of_lt_of_le, le_of_dvd, dvd_trans, dvd-mul_left, mul-pos, mul-le-mul, le-mul_of_pos_right, zero-mul, mul_comm, pos_of_ne-zero}
 use native.Mathlib.Numerals.{add-one}
 use native.Mathlib.Omega.{arith}
 use native.Mathlib.Decide.{dec_lt}
@@ -23,12 +25,8 @@ use Rattle.units.specs.Bounds.{MOST_FIRINGS}
 use Rattle.units.specs.Products.{MOST_COUNTED, MOST_WORK}
 use Rattle.units.specs.Limits.{ACTORS, ITERATION_LIMIT}
 use Rattle.units.specs.Firings.{firing}
-use Rattle.period.specs.declared.Firings.{Firings}
-use Rattle.period.specs.declared.Firings.TheVariants.{Are, Above}
-use Rattle.period.specs.declared.Length.{Length}
-use Rattle.period.specs.declared.Length.TheVariants.{Is, Above as TooLong}
 use Rattle.period.specs.Period.{work_of, work_most, period_of, CommonWithin, IterationIs, IterationWithin}
-use Rattle.period.specs.Reckoned.{common_of, common_of_law, common_is, length_of as reckoned_of}
+use Rattle.period.specs.Reckoned.{common_of, common_of_law, common_is, length_of as reckoned_of, iteration_of}
 use Rattle.period.proofs.Lengths.{iteration_of_law}
 use Rattle.tables.specs.declared.Actor.{Actor}
 use Rattle.tables.specs.Shape.{Mode, no_actor, actor_at, Active}
@@ -37,30 +35,23 @@ use Rattle.graph.specs.Balance.{Balances, Common, Most, Iteration, Unbalanced, f
 use Rattle.graph.specs.Laws.{iteration_one, iteration_scaled, iteration_pos, period_whole}
 use Rattle.graph.specs.Judged.{of_actors}
 use Rattle.graph.specs.Counts.{Counted}
-use Rattle.graph.specs.Lengths.{Fitting, Few, Light, Fires, firings_in, works_in, most_from, with_firings, common_from, length_by, length_of, periods_in}
+use Rattle.graph.specs.Lengths.{Fitting, Few, Light, Fires, firings_in, works_in, most_from, common_from, length_of, periods_in}
+use Rattle.graph.proofs.Stopped.{none_stays, cond_none}
 
 -- one actor more, as a loop counts
 pub most_next : (ws : List Tick) (n : ℕ) → most_from ws (n + 1) ≡ greater_tick (most_from ws n) (get_or ws n (tick 0))
 unfolding most_from
 most_next ws n = rw add-one
 
-pub common_next : (qs : List Firing) (active n : ℕ)
-    → common_from qs active (n + 1) ≡ cond (hasb active n) (with_firings (common_from qs active n) (get_or qs n (firing 0))) (common_from qs active n)
+pub common_next : (qs : List Firing) (active n : ℕ) → common_from qs active (n + 1)
+    ≡ cond (hasb active n) (option_and_then (λ l. common_of l (get_or qs n (firing 0)) MOST_FIRINGS) (common_from qs active n)) (common_from qs active n)
 unfolding common_from
 common_next qs active n = rw add-one
 
 -- what is above the limit stays above it
-pub common_stays : (qs : List Firing) (active n k : ℕ) → n ≤ k → common_from qs active n ≡ Above → common_from qs active k ≡ Above
+pub common_stays : (qs : List Firing) (active n k : ℕ) → n ≤ k → common_from qs active n ≡ None → common_from qs active k ≡ None
 unfolding common_from
-common_stays qs active zero zero h e = e
-common_stays qs active (suc n) zero h e = absurd (not-suc-le-zero h)
-common_stays qs active n (suc k) h e =
-    ⊎_elim (λ (q : n ≡ suc k). subst (λ (j : ℕ). common_from qs active j ≡ Above) q e)
-    (λ (l : n < suc k). rw (common_stays qs active n k (le_of_suc-le-suc l) e) (go (hasb active k))) (eq-or-lt_of_le h)
-  where
-    go : (b : Bool) → cond b Above Above ≡ Above
-    go true = refl
-    go false = refl
+common_stays qs active = none_stays (common_from qs active) (λ n e. rw e (cond_none (hasb active n)))
 
 most_is : (ws : List Tick) (n : ℕ) → (most_from ws n).0 ≡ most_of (λ i. (get_or ws i (tick 0)).0) n
 unfolding most_from most_of
@@ -69,16 +60,16 @@ most_is ws (suc n) = rw (most_is ws n)
 
 module _ (qs : List Firing) (active : ℕ) (fires : Fires qs active) where
   -- one actor more that is active: its firings are taken in
-  pub common_taken : (n : ℕ) (l : Firing) (r : Firings) → n < ACTORS → hasb active n ≡ true → common_from qs active n ≡ Are l
+  pub common_taken : (n : ℕ) (l : Firing) (r : Option Firing) → n < ACTORS → hasb active n ≡ true → common_from qs active n ≡ Some l
       → CommonWithin l (get_or qs n (firing 0)) MOST_FIRINGS r → common_from qs active (n + 1) ≡ r
   common_taken n l r h has is p =
       common_next qs active n
       ∙ rw (has, is) (sym (common_is l (get_or qs n (firing 0)) MOST_FIRINGS r (fires.fires n h (decides_true (has_decides active n) has)) p))
 
   -- the least common multiple of the firings of the actors below n; or that each common multiple is above the limit
-  abbrev Multiple : Firings → ℕ → Type 0
-  Multiple (Are l) n = LcmOfAll (Has active) (λ i. (get_or qs i (firing 0)).0) n l.0 × (0 < l.0)
-  Multiple Above n = (k : ℕ) → 0 < k → ((i : ℕ) → (i < n) × Has active i → (get_or qs i (firing 0)).0 ∣ k) → MOST_FIRINGS.0 < k
+  abbrev Multiple : Option Firing → ℕ → Type 0
+  Multiple (Some l) n = LcmOfAll (Has active) (λ i. (get_or qs i (firing 0)).0) n l.0 × (0 < l.0)
+  Multiple None n = (k : ℕ) → 0 < k → ((i : ℕ) → (i < n) × Has active i → (get_or qs i (firing 0)).0 ∣ k) → MOST_FIRINGS.0 < k
 
   common_found : (n : ℕ) → n ≤ ACTORS → Multiple (common_from qs active n) n
   unfolding common_from
@@ -88,23 +79,23 @@ module _ (qs : List Firing) (active : ℕ) (fires : Fires qs active) where
       q : Firing
       q = get_or qs n (firing 0)
 
-      with_one : Has active n → (l : Firing) → Multiple (Are l) n → (r : Firings) → CommonWithin l q MOST_FIRINGS r → Multiple r (suc n)
-      with_one a l (p, pos) (Are k) (c, small) = (lcm_more _ _ n a c p, lcm_pos pos (fires.fires n h a) c)
-      with_one a l (p, pos) Above c = λ k some f.
+      with_one : Has active n → (l : Firing) → Multiple (Some l) n → (r : Option Firing) → CommonWithin l q MOST_FIRINGS r → Multiple r (suc n)
+      with_one a l (p, pos) (Some k) (c, small) = (lcm_more _ _ n a c p, lcm_pos pos (fires.fires n h a) c)
+      with_one a l (p, pos) None c = λ k some f.
           let is = lcm_of_law l.0 q.0 (fires.fires n h a) in
           lt_of_lt_of_le (c (firing (lcm_of l.0 q.0)) is)
           (le_of_dvd some (is.least k (p.least k (λ i b. f i (le_step b.0, b.1))) (f n (le_refl (suc n), a))))
 
-      go : (b : Bool) → hasb active n ≡ b → (r : Firings) → Multiple r n → Multiple (cond b (with_firings r q) r) (suc n)
-      go true e (Are l) p =
+      go : (b : Bool) → hasb active n ≡ b → (r : Option Firing) → Multiple r n → Multiple (cond b (option_and_then (λ l. common_of l q MOST_FIRINGS) r) r) (suc n)
+      go true e (Some l) p =
           let a = decides_true (has_decides active n) e in
           with_one a l p (common_of l q MOST_FIRINGS) (common_of_law l q MOST_FIRINGS (fires.fires n h a))
-      go true e Above p = λ k some f. p k some (λ i b. f i (le_step b.0, b.1))
-      go false e (Are l) (p, pos) = (lcm_past _ _ n (decides_false (has_decides active n) e) p, pos)
-      go false e Above p = λ k some f. p k some (λ i b. f i (le_step b.0, b.1))
+      go true e None p = λ k some f. p k some (λ i b. f i (le_step b.0, b.1))
+      go false e (Some l) (p, pos) = (lcm_past _ _ n (decides_false (has_decides active n) e) p, pos)
+      go false e None p = λ k some f. p k some (λ i b. f i (le_step b.0, b.1))
 
-  pub common_pos : {l : Firing} → common_from qs active ACTORS ≡ Are l → 0 < l.0
-  common_pos e = (subst (λ (r : Firings). Multiple r ACTORS) e (common_found ACTORS (le_refl ACTORS))).1
+  pub common_pos : {l : Firing} → common_from qs active ACTORS ≡ Some l → 0 < l.0
+  common_pos e = (subst (λ (r : Option Firing). Multiple r ACTORS) e (common_found ACTORS (le_refl ACTORS))).1
 
 module _ (m : Mode) (proper : ProperMode m) where
   -- an actor is active, or there is none
@@ -167,7 +158,7 @@ module _ (m : Mode) (proper : ProperMode m) where
         }
 
     -- a multiple that is found is that of all firings
-    shared_is : (l : Firing) → Multiple qs m.active firings_fire (Are l) ACTORS → Common m X l
+    shared_is : (l : Firing) → Multiple qs m.active firings_fire (Some l) ACTORS → Common m X l
     shared_is l (p, pos) =
         record {
           each = λ i a. subst (λ (q : Firing). q.0 ∣ l.0) (firings_at_law i a.0) (p.each i a);
@@ -196,20 +187,20 @@ module _ (m : Mode) (proper : ProperMode m) where
             (active_or_none j)
 
     -- the length that is found is that of the iteration
-    pub length_is : (i : ℕ) × Active m i → (h : Tick) → length_of ws qs m.active ≡ Is h → Iteration m X h × (h.0 ≤ ITERATION_LIMIT.0)
+    pub length_is : (i : ℕ) × Active m i → (h : Tick) → length_of ws qs m.active ≡ Some h → Iteration m X h × (h.0 ≤ ITERATION_LIMIT.0)
     length_is (i, a) h e = go (common_from qs m.active ACTORS) (common_found qs m.active firings_fire ACTORS (le_refl ACTORS)) e
       where
         w : Tick
         w = most_from ws ACTORS
 
-        go : (r : Firings) → Multiple qs m.active firings_fire r ACTORS → length_by r w ≡ Is h → Iteration m X h × (h.0 ≤ ITERATION_LIMIT.0)
-        go (Are l) p e =
-            let (is, small) = subst (λ (r : Length). IterationWithin l w ITERATION_LIMIT r) e (iteration_of_law l w ITERATION_LIMIT p.1) in
+        go : (r : Option Firing) → Multiple qs m.active firings_fire r ACTORS → option_and_then (λ l. iteration_of l w ITERATION_LIMIT) r ≡ Some h → Iteration m X h × (h.0 ≤ ITERATION_LIMIT.0)
+        go (Some l) p e =
+            let (is, small) = subst (λ (r : Option Tick). IterationWithin l w ITERATION_LIMIT r) e (iteration_of_law l w ITERATION_LIMIT p.1) in
             ((l, w, shared_is l p, most_of_law i a, is), small)
-        go Above p e = let z : ◌≡◌ {A = ℕ} 0 1 = cc in absurd (omega arith)
+        go None p e = absurd (none-some h e)
 
     -- where it is found to be above the limit, each multiple of the counts has an iteration above the limit
-    above : length_of ws qs m.active ≡ TooLong → (y : ℕ → ℕ) (n : ℕ) (h : Tick) → 1 ≤ n → ((i : ℕ) → Active m i → y i ≡ n * X i) → Iteration m y h → ITERATION_LIMIT.0 < h.0
+    above : length_of ws qs m.active ≡ None → (y : ℕ → ℕ) (n : ℕ) (h : Tick) → 1 ≤ n → ((i : ℕ) → Active m i → y i ≡ n * X i) → Iteration m y h → ITERATION_LIMIT.0 < h.0
     above e y n h some scaled iteration =
         go (common_from qs m.active ACTORS) (common_found qs m.active firings_fire ACTORS (le_refl ACTORS)) e
       where
@@ -219,23 +210,23 @@ module _ (m : Mode) (proper : ProperMode m) where
         counts : (i : ℕ) → Active m i → 1 ≤ y i
         counts i a = rw (scaled i a) (mul-pos some (counted.some i a))
 
-        go : (r : Firings) → Multiple qs m.active firings_fire r ACTORS → length_by r w ≡ TooLong → ITERATION_LIMIT.0 < h.0
-        go (Are l) p e =
+        go : (r : Option Firing) → Multiple qs m.active firings_fire r ACTORS → option_and_then (λ l. iteration_of l w ITERATION_LIMIT) r ≡ None → ITERATION_LIMIT.0 < h.0
+        go (Some l) p e =
             let (i, a, d) = iteration.3.holds in
             let g = reckoned_of l w in
             let is : IterationIs l w g = (rounded_of w.0 l.0, rounded_of_law w.0 l.0 p.1, refl) in
             let one : h ≡ tick (n * g.0) = iteration_one m y iteration (iteration_scaled m X y n some scaled (l, w, shared_is l p, most_of_law i a, is)) in
             let long : ITERATION_LIMIT.0 < g.0
-            = subst (λ (r : Length). IterationWithin l w ITERATION_LIMIT r) e (iteration_of_law l w ITERATION_LIMIT p.1) g is in
+            = subst (λ (r : Option Tick). IterationWithin l w ITERATION_LIMIT r) e (iteration_of_law l w ITERATION_LIMIT p.1) g is in
             omega (arith, ap (λ (t : Tick). t.0) one, le-mul_of_pos_right g.0 some, mul_comm g.0 n)
-        go Above p e =
+        go None p e =
             p h.0 (iteration_pos m proper y counts iteration)
             (λ i a. subst (λ (q : Firing). q.0 ∣ h.0) (sym (firings_at_law i a.0))
             (dvd_trans (firings_of m X i).0 (subst (λ (q : ℕ). (firings_of m X i).0 ∣ q) (omega (arith, ap (λ (k : ℕ). (actor_at m i).phases * k) (scaled i a))) (dvd-mul_left (firings_of m X i).0 n))
             (subst (λ (t : ℕ). (firings_of m y i).0 ∣ t) (period_whole m y iteration i a) (dvd-mul_left (firings_of m y i).0 (period_of h (firings_of m y i)).0))))
 
     -- so, where each balancing vector is a multiple of the counts, none has an iteration within the limit
-    pub above_unbalanced : length_of ws qs m.active ≡ TooLong
+    pub above_unbalanced : length_of ws qs m.active ≡ None
         → ((y : ℕ → ℕ) → Balances m y → (n : ℕ) × ((i : ℕ) → Active m i → y i ≡ n * X i)) → Unbalanced m
     above_unbalanced e each y h balances iteration =
         let (n, scaled) = each y balances in

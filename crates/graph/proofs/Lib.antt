@@ -1,5 +1,4 @@
 -- What the proofs lean on.
-pub mod Lent
 pub mod Sorted
 mod Bounds
 mod Entries
@@ -7,6 +6,9 @@ mod Flows
 mod Multiples
 mod Lasting
 mod Shared
+mod Refused
+mod Made
+mod Stopped
 pub mod Judging
 pub mod Unique
 mod Settled

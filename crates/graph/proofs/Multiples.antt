@@ -1,7 +1,9 @@
 -- The cycle counts that are found: all counts that balance the mode are multiples of them, so they are the smallest where they balance it, and where they do not none do. Assumes nothing.
 use mathlib.Core.Path.{◌≡◌, refl, sym, ap, subst, ◌∙◌}
-use mathlib.Core.Bool.{Bool, true, false, cond, true≢false}
+use mathlib.Core.Bool.{Bool, true, false, cond}
 use mathlib.Core.List.{List}
+use Rattle.std.specs.Prelude.{Option, None, Some, option_and_then}
+use Rattle.std.proofs.lemmas.Option.{none-some, same_Some, MatchOption-at_some}
 use mathlib.Core.Logic.{◌⊎◌, inl, inr}
 use Prim.Native.Nat.{ℕ, zero, suc, ◌+◌, ◌*◌, ◌/◌, ◌%◌, ◌≤◌, ◌<◌}
 use native.Mathlib.Nat.{mul-pos, eq_of_mul-eq-mul_right, lt_of_lt_of_le, lt_of_not-le, eq-zero-or-pos, mul_comm, zero-mul, zero-lt-suc}
@@ -23,12 +25,11 @@ use Rattle.rate.specs.Reckoned.{meet_of}
 use Rattle.rate.proofs.Meetings.{meet_of_law}
 use Rattle.tables.specs.Shape.{Mode, channel_at, Active}
 use Rattle.tables.specs.Proper.{ProperMode}
-use Rattle.graph.specs.declared.balance.Counts.{Counts}
 use Rattle.graph.specs.Order.{Joins, Cyclic, Depth, Ranked}
 use Rattle.graph.specs.Ends.{Ends}
 use Rattle.graph.specs.Balance.{made_on, taken_on, Balances, Smallest, Unbalanced}
 use Rattle.graph.specs.Laws.{count_within}
-use Rattle.graph.specs.Counts.{Small, Counted, flow_of, entries_of, above_limit, fed_of, due_at, one_cycle, counts_from, counts_of, balancesb}
+use Rattle.graph.specs.Counts.{Small, Counted, entries_of, met_by, fed_of, fed_by, due_at, one_cycle, counts_from, counts_of, balancesb}
 use Rattle.graph.proofs.Sorted.{from_active, depth_first, depth_joined, joins_deeper, depth_below}
 use Rattle.graph.proofs.Entries.{entered}
 use Rattle.graph.proofs.Flows.{balances_decides, flow_in, flow_some, Met, new, taker, other, met_told, counts_small as small_from}
@@ -79,9 +80,9 @@ module _ (m : Mode) (proper : ProperMode m) (ds : List ℕ) (ranked : Ranked m d
     divides : (y : ℕ → ℕ) → Balances m y → (k : ℕ) × ((i : ℕ) → Reached n i → y i ≡ k * get_or x i 0)
 
   -- what n steps have found: such counts, or that of all balancing counts one is above the limit
-  data Told (n : ℕ) : Counts → Type 0 where
-    fine : (x : List ℕ) → Divides n x → Told n (record { good = true; counts = x })
-    over : ((y : ℕ → ℕ) → Balances m y → (i : ℕ) × Active m i × (MOST_CYCLES < y i)) → Told n above_limit
+  data Told (n : ℕ) : Option (List ℕ) → Type 0 where
+    fine : (x : List ℕ) → Divides n x → Told n (Some x)
+    over : ((y : ℕ → ℕ) → Balances m y → (i : ℕ) × Active m i × (MOST_CYCLES < y i)) → Told n None
 
   -- in the beginning: the source, which alone has depth 0
   source_active : Active m s
@@ -99,12 +100,12 @@ module _ (m : Mode) (proper : ProperMode m) (ds : List ℕ) (ranked : Ranked m d
       let e : get_or ds i 0 ≡ 0 = omega arith in
       ends.0.1 i (depth_first m proper i a (subst (Depth m i) e (ranked.depth i a)))
 
-  one_at : get_or (one_cycle s).counts s 0 ≡ 1
+  one_at : get_or (one_cycle s) s 0 ≡ 1
   one_at = get_or-set_same (replicate ACTORS 0) s 1 0 (omega (arith, source_active.0, length-replicate {A = ℕ} ACTORS 0))
 
-  told_first : Told 0 (one_cycle s)
+  told_first : Told 0 (Some (one_cycle s))
   told_first =
-      fine (one_cycle s).counts
+      fine (one_cycle s)
       (record {
         some = λ i r. rw (first_source i r) (omega (arith, one_at));
         none = λ i l n.
@@ -134,15 +135,12 @@ module _ (m : Mode) (proper : ProperMode m) (ds : List ℕ) (ranked : Ranked m d
   )
 
   -- a step that feeds an actor, from the producer of its entry
-  module _ (n : ℕ) (x : List ℕ) (p : Divides n x) (due : Has m.active (n % ACTORS) × (get_or ds (n % ACTORS) 0 ≡ n / ACTORS + 1)) where
+  module _ (n : ℕ) (x : List ℕ) (p : Divides n x) (due : Has m.active (n % ACTORS) × (get_or ds (n % ACTORS) 0 ≡ n / ACTORS + 1)) (entry : ℕ) (enters : (entry < m.count) × ((channel_at m entry).to ≡ n % ACTORS)) where
     abbrev here : ℕ
     here = n % ACTORS
 
-    abbrev entry : ℕ
-    entry = get_or (entries_of m) (n % ACTORS) 0
-
     abbrev maker : ℕ
-    maker = (channel_at m (get_or (entries_of m) (n % ACTORS) 0)).from
+    maker = (channel_at m entry).from
 
     abbrev meeting : Meeting
     meeting = meet_of (get_or x maker 0) (made_on m entry) (taken_on m entry)
@@ -152,9 +150,6 @@ module _ (m : Mode) (proper : ProperMode m) (ds : List ℕ) (ranked : Ranked m d
 
     here_reached : Reached (suc n) here
     here_reached = (here_active, omega (arith, due.1))
-
-    enters : (entry < m.count) × ((channel_at m entry).to ≡ here)
-    enters = entered m proper ds ranked here here_active (omega (arith, due.1))
 
     -- its producer is less deep
     maker_reached : Reached n maker
@@ -213,7 +208,7 @@ module _ (m : Mode) (proper : ProperMode m) (ds : List ℕ) (ranked : Ranked m d
           divides = λ y b. let (k, e, h) = shared y b in (k, fresh_each (λ i c. y i ≡ k * c) e h);
         }
 
-    told_met : (c : Counts) → Met x meeting here c → Told (suc n) c
+    told_met : (c : Option (List ℕ)) → Met x meeting here c → Told (suc n) c
     told_met c (new h f) = fine fresh fresh_divides
     told_met c (taker h) =
         over (λ y b. let (k, e, f) = shared y b in (here, here_active, lt_of_lt_of_le h (multiple_least k meeting.takers e (b.some here here_active))))
@@ -225,12 +220,17 @@ module _ (m : Mode) (proper : ProperMode m) (ds : List ℕ) (ranked : Ranked m d
         go y b (k, e, f) (yes r) = (j, r.0, lt_of_lt_of_le h (multiple_least k (get_or x j 0 * meeting.times) (f j r) (b.some j r.0)))
         go y b w (no f) = absurd (omega (arith, h, ap (λ (c : ℕ). c * meeting.times) (p.none j l f), zero-mul meeting.times))
 
-  told_fed : (n : ℕ) (c : Counts) → due_at m ds n ≡ true → Told n c → Told (suc n) (fed_of c (flow_of m (get_or (entries_of m) (n % ACTORS) 0)) (n % ACTORS))
+  told_fed : (n : ℕ) (c : Option (List ℕ)) → due_at m ds n ≡ true → Told n c
+      → Told (suc n) (option_and_then (λ x. fed_by m x (get_or (entries_of m) (n % ACTORS) None) (n % ACTORS)) c)
   unfolding fed_of
-  told_fed n c e (fine x p) = let due = decides_true (due_is n) e in told_met n x p due _ (met_told x (meeting n x p due) (n % ACTORS))
+  told_fed n c e (fine x p) =
+      let due = decides_true (due_is n) e in
+      let (k, is, below, to) = entered m proper ds ranked (n % ACTORS) (omega arith, due.0) (omega (arith, due.1)) in
+      let g = meeting n x p due k (below, to) in
+      rw is (told_met n x p due k (below, to) (met_by x g (n % ACTORS)) (met_told x g (n % ACTORS)))
   told_fed n c e (over f) = over f
 
-  told_idle : (n : ℕ) (c : Counts) → due_at m ds n ≡ false → Told n c → Told (suc n) c
+  told_idle : (n : ℕ) (c : Option (List ℕ)) → due_at m ds n ≡ false → Told n c → Told (suc n) c
   told_idle n c e (fine x p) =
       fine x
       (record {
@@ -245,8 +245,8 @@ module _ (m : Mode) (proper : ProperMode m) (ds : List ℕ) (ranked : Ranked m d
   told zero = told_first
   told (suc n) = go (due_at m ds n) refl (counts_from m (entries_of m) ds s n) (told n)
     where
-      go : (b : Bool) → due_at m ds n ≡ b → (c : Counts) → Told n c
-          → Told (suc n) (cond b (fed_of c (flow_of m (get_or (entries_of m) (n % ACTORS) 0)) (n % ACTORS)) c)
+      go : (b : Bool) → due_at m ds n ≡ b → (c : Option (List ℕ)) → Told n c
+          → Told (suc n) (cond b (option_and_then (λ x. fed_by m x (get_or (entries_of m) (n % ACTORS) None) (n % ACTORS)) c) c)
       go true e c w = told_fed n c e w
       go false e c w = told_idle n c e w
 
@@ -254,50 +254,49 @@ module _ (m : Mode) (proper : ProperMode m) (ds : List ℕ) (ranked : Ranked m d
   reached_all : (i : ℕ) → Active m i → Reached (ACTORS * ACTORS) i
   reached_all i a = (a, omega (arith, a.0, depth_below m proper i (get_or ds i 0) a (ranked.depth i a) acyclic))
 
-  -- the counts that are found
-  abbrev found : Counts
-  found = counts_of m ds s
-
-  found_divides : found.good ≡ true → Divides (ACTORS * ACTORS) found.counts
-  found_divides = go found (told (ACTORS * ACTORS))
-    where
-      go : (c : Counts) → Told (ACTORS * ACTORS) c → c.good ≡ true → Divides (ACTORS * ACTORS) c.counts
-      go c (fine x p) e = p
-      go c (over f) e = absurd (true≢false (sym e))
-
-  -- all within the limit
-  pub counts_small : Small (counts_of m ds s).counts
-  counts_small = small_from m (entries_of m) ds s (ACTORS * ACTORS)
-
   -- where a count is above the limit, so is one of all balancing counts
-  pub counts_above : (counts_of m ds s).good ≡ false → Unbalanced m
-  counts_above = go found (told (ACTORS * ACTORS))
+  pub counts_above : counts_of m ds s ≡ None → Unbalanced m
+  counts_above = go (counts_of m ds s) (told (ACTORS * ACTORS))
     where
-      go : (c : Counts) → Told (ACTORS * ACTORS) c → c.good ≡ false → Unbalanced m
-      go c (fine x p) e = absurd (true≢false e)
+      go : (c : Option (List ℕ)) → Told (ACTORS * ACTORS) c → c ≡ None → Unbalanced m
+      go c (fine x p) e = absurd (none-some x (sym e))
       go c (over f) e = λ x h b q. let (i, a, l) = f x b in lt_of_lt_of_le l (count_within m proper x b h q i a)
 
-  pub counts_counted : (counts_of m ds s).good ≡ true → Counted m (counts_of m ds s).counts
-  counts_counted e = record { small = counts_small; some = λ i a. (found_divides e).some i (reached_all i a) }
+  -- the counts that are found
+  module _ (x : List ℕ) (found : counts_of m ds s ≡ Some x) where
+    found_divides : Divides (ACTORS * ACTORS) x
+    found_divides = go (counts_of m ds s) (told (ACTORS * ACTORS)) found
+      where
+        go : (c : Option (List ℕ)) → Told (ACTORS * ACTORS) c → c ≡ Some x → Divides (ACTORS * ACTORS) x
+        go c (fine y p) e = subst (Divides (ACTORS * ACTORS)) (same_Some y x e) p
+        go c (over f) e = absurd (none-some x e)
 
-  -- otherwise all balancing counts are multiples of those found
-  pub counts_divide : (counts_of m ds s).good ≡ true → (y : ℕ → ℕ) → Balances m y → (n : ℕ) × ((i : ℕ) → Active m i → y i ≡ n * get_or (counts_of m ds s).counts i 0)
-  counts_divide e y b = let (n, h) = (found_divides e).divides y b in (n, λ i a. h i (reached_all i a))
+    -- all within the limit
+    pub counts_counted : Counted m x
+    counts_counted =
+        record {
+          small = MatchOption-at_some _ Small x found (small_from m (entries_of m) ds s (ACTORS * ACTORS));
+          some = λ i a. found_divides.some i (reached_all i a);
+        }
 
-  pub counts_smallest : (counts_of m ds s).good ≡ true → balancesb m (counts_of m ds s).counts m.count ≡ true → Smallest m (λ i. get_or (counts_of m ds s).counts i 0)
-  counts_smallest e q =
-      record {
-        balances = record { some = (counts_counted e).some; even = decides_true (balances_decides m found.counts m.count) q };
-        least = λ y b i a. let (n, h) = counts_divide e y b in multiple_least n (get_or found.counts i 0) (h i a) (b.some i a);
-      }
+    -- all balancing counts are multiples of those found
+    pub counts_divide : (y : ℕ → ℕ) → Balances m y → (n : ℕ) × ((i : ℕ) → Active m i → y i ≡ n * get_or x i 0)
+    counts_divide y b = let (n, h) = found_divides.divides y b in (n, λ i a. h i (reached_all i a))
 
-  pub counts_uneven : (counts_of m ds s).good ≡ true → balancesb m (counts_of m ds s).counts m.count ≡ false → (y : ℕ → ℕ) → Balances m y → ⊥
-  counts_uneven e q y b =
-      let (n, h) = counts_divide e y b in
-      decides_false (balances_decides m found.counts m.count) q
-      (λ k l.
-      let c = proper.channel k l in
-      let even : get_or found.counts (channel_at m k).from 0 * (made_on m k).0 ≡ get_or found.counts (channel_at m k).to 0 * (taken_on m k).0
-      = balances_once n _ _ (made_on m k).0 (taken_on m k).0 (y (channel_at m k).from) (y (channel_at m k).to)
-      (h _ (c.from, c.from_active)) (h _ (c.to, c.to_active)) (b.some _ (c.from, c.from_active)) (ap (λ (w : Token). w.0) (b.even k l)) in
-      λ i. record { 0 = even i })
+    pub counts_smallest : balancesb m x m.count ≡ true → Smallest m (λ i. get_or x i 0)
+    counts_smallest q =
+        record {
+          balances = record { some = counts_counted.some; even = decides_true (balances_decides m x m.count) q };
+          least = λ y b i a. let (n, h) = counts_divide y b in multiple_least n (get_or x i 0) (h i a) (b.some i a);
+        }
+
+    pub counts_uneven : balancesb m x m.count ≡ false → (y : ℕ → ℕ) → Balances m y → ⊥
+    counts_uneven q y b =
+        let (n, h) = counts_divide y b in
+        decides_false (balances_decides m x m.count) q
+        (λ k l.
+        let c = proper.channel k l in
+        let even : get_or x (channel_at m k).from 0 * (made_on m k).0 ≡ get_or x (channel_at m k).to 0 * (taken_on m k).0
+        = balances_once n _ _ (made_on m k).0 (taken_on m k).0 (y (channel_at m k).from) (y (channel_at m k).to)
+        (h _ (c.from, c.from_active)) (h _ (c.to, c.to_active)) (b.some _ (c.from, c.from_active)) (ap (λ (w : Token). w.0) (b.even k l)) in
+        λ i. record { 0 = even i })

@@ -2,22 +2,25 @@
 use mathlib.Core.Path.{◌≡◌, refl, sym, ap, ◌∙◌}
 use mathlib.Core.Bool.{Bool, true, false, cond, not, ◌&&◌}
 use mathlib.Core.List.{List}
-use mathlib.Core.Logic.{⊎_elim, ◌↔◌}
-use Prim.Native.Nat.{ℕ, zero, suc, ◌+◌, ◌-◌, ◌*◌, ◌^◌, ◌≤◌, ◌<◌, zero-le}
-use native.Mathlib.Nat.{le_refl, lt_of_lt_of_le, lt_of_not-le}
+use Rattle.std.specs.Prelude.{None, Some, nat_lt, position}
+use Rattle.std.specs.List.{position_or_len}
+use Rattle.std.proofs.lemmas.List.Quantifiers.{position-Some}
+use Rattle.std.proofs.lemmas.List.Sums.{prefix_len_passes}
+use mathlib.Core.Logic.{◌↔◌}
+use Prim.Native.Nat.{ℕ, zero, suc, ◌+◌, ◌*◌, ◌^◌, ◌≤◌, ◌<◌}
+use native.Mathlib.Nat.{le_refl, lt_of_lt_of_le, lt_of_not-le, le_of_suc-le-suc}
 use native.Mathlib.Numerals.{add-one}
 use native.Mathlib.Omega.{arith}
-use native.Mathlib.Decide.{dec_le, ℕ_discrete}
-use borrow.Author.Tests.{eq-eqb, ne_eqb}
+use native.Mathlib.Decide.{ℕ_discrete}
+use borrow.Author.Tests.{eq-eqb, ne_eqb, ltb-false, not-true}
+use Rattle.std.proofs.lemmas.Option.{none-some}
 use lib.Dec.{eqb}
 use lib.ListN.{length, get_or, set, replicate, length-set}
 use lib.Seq.{get_or-set_same, get_or-set_other}
 use Rattle.numbers.specs.Bits.{hasb, has_decides}
-use Rattle.numbers.specs.Decides.{Decides, decides_unique, decides_not, decides_true, decides_false}
+use Rattle.numbers.specs.Decides.{Decides, decides_not, decides_true, decides_false}
 use Rattle.numbers.specs.Extreme.{Least}
 use Rattle.numbers.specs.Fraction.{Proper, AtMost, Same, sum_proper, sum_common, same_at_most, nothing, at_mostb, at_most_decides}
-use Rattle.numbers.specs.declared.fraction.Fraction.{Fraction}
-use Rattle.numbers.specs.Lowest.{FirstPasses, NonePasses, lowest_or, lowest_next, lowest_none, lowest_is, sought}
 use Rattle.numbers.specs.Sum.{sum}
 use Rattle.numbers.specs.Tab.{tab, get_or_tab, length_tab, is_tab, tab_same}
 use Rattle.units.specs.declared.Tick.{Tick}
@@ -33,24 +36,20 @@ use Rattle.graph.specs.Balance.{Iteration, firings_of, work_in}
 use Rattle.graph.specs.Load.{is_on, asked_by, load_of, Overloaded}
 use Rattle.graph.specs.Laws.{iteration_pos, period_whole, period_fits}
 use Rattle.graph.specs.Counts.{Counted}
-use Rattle.graph.specs.Lengths.{Light, firings_in, works_in, share_from, shares_in, overloaded_of}
+use Rattle.graph.specs.Lengths.{Light, firings_in, works_in, share_from, shares_in, overb, overloaded_of}
 use Rattle.graph.proofs.Lasting.{works_at}
+
+-- where no place is found no element passes
+position_none : {X : Type 0} (p : X → Bool) (xs : List X) (k : ℕ) (d : X) → k < length xs → position p xs ≡ None → p (get_or xs k d) ≡ false
+position_none p xs k d h = go (nat_lt (position_or_len p xs) (length xs)) refl
+  where
+    go : (b : Bool) → nat_lt (position_or_len p xs) (length xs) ≡ b → cond b (Some (position_or_len p xs)) None ≡ None → p (get_or xs k d) ≡ false
+    go true e f = absurd (none-some _ (sym f))
+    go false e f = not-true (p (get_or xs k d)) (prefix_len_passes (λ x. not (p x)) xs k d (lt_of_lt_of_le h (ltb-false _ _ e)))
 
 -- the ticks of an iteration that processor p works
 abbrev worked_on : Mode → (ℕ → ℕ) → ℕ → Tick
 worked_on m x p = tick (sum (λ i. cond (is_on m p i) (work_in m x i).0 0) ACTORS)
-
--- whether the load of the processor at place p is found to be above the limit
-abbrev pub overb : List Tick → Tick → ℕ → Bool
-overb shares h p = not (at_mostb (share_of (get_or shares p (tick 0)) h) LOAD_LIMIT)
-
--- one processor more, as a loop counts
-pub over_next : (shares : List Tick) (h : Tick) (p : ℕ) (a : Fraction) (r : Bool) → p < PROCESSORS → a ≡ share_of (get_or shares p (tick 0)) h → Decides (AtMost a LOAD_LIMIT) r
-    → lowest_or (overb shares h) PROCESSORS (PROCESSORS - p) p ≡ cond (not r) p (lowest_or (overb shares h) PROCESSORS (PROCESSORS - (p + 1)) (p + 1))
-over_next shares h p a r l e d =
-    let test : at_mostb (share_of (get_or shares p (tick 0)) h) LOAD_LIMIT ≡ r
-    = ap (λ (f : Fraction). at_mostb f LOAD_LIMIT) (sym e) ∙ decides_unique (at_mostb a LOAD_LIMIT) r (at_most_decides a LOAD_LIMIT) d in
-    lowest_next (overb shares h) PROCESSORS PROCESSORS p l ∙ rw test
 
 -- the share of n actors is at most n works
 share_most : (acts : List Actor) (ws : List Tick) (p : ℕ) → Light ws → (n : ℕ) → (share_from acts ws p n).0 ≤ n * MOST_WORK.0
@@ -169,7 +168,7 @@ module _ (m : Mode) (proper : ProperMode m) (x : List ℕ) (counted : Counted m 
         (sum_common (λ i. cond (is_on m p i) (asked_by m periods i) nothing) (λ i. cond (is_on m p i) (work_in m X i).0 0) h.0 ACTORS asked_same)
 
     -- the test answers whether it is
-    pub over_is : (q : ℕ) → q < PROCESSORS → p ≡ number_of q → Decides (Overloaded m X h q) (overb shares h q)
+    pub over_is : (q : ℕ) → q < PROCESSORS → p ≡ number_of q → Decides (Overloaded m X h q) (overb h (get_or shares q (tick 0)))
     over_is q l e =
         let s : get_or shares q (tick 0) ≡ worked_on m X p
         = get_or_tab PROCESSORS (λ p. share_from m.actors ws (number_of p) ACTORS) q (tick 0) l ∙ (λ i. tick (share_is (number_of q) ACTORS (le_refl ACTORS) i)) ∙ ap (worked_on m X) (sym e) in
@@ -179,25 +178,19 @@ module _ (m : Mode) (proper : ProperMode m) (x : List ℕ) (counted : Counted m 
         )
 
   module _ (h : Tick) (iteration : Iteration m X h) where
-    over : (p : ℕ) → p < PROCESSORS → Decides (Overloaded m X h p) (overb shares h p)
+    over : (p : ℕ) → p < PROCESSORS → Decides (Overloaded m X h p) (overb h (get_or shares p (tick 0)))
     over p l = over_is h iteration (number_of p) p l refl
 
-    none_over : NonePasses (overb shares h) PROCESSORS 0 → (p : ℕ) → Overloaded m X h p → ⊥
-    none_over n p o = decides_false (over p o.processor) (n p zero-le (omega (arith, o.processor))) o
+    long : length shares ≡ PROCESSORS
+    long = length_tab PROCESSORS (λ p. share_from m.actors ws (number_of p) ACTORS)
 
-    pub loads_fine : overloaded_of shares h ≡ PROCESSORS → (p : ℕ) → Overloaded m X h p → ⊥
-    loads_fine e = ⊎_elim (λ (j, f). absurd (omega (arith, f.below, lowest_is (overb shares h) PROCESSORS PROCESSORS 0 j f))) none_over (sought (overb shares h) PROCESSORS 0)
+    pub loads_fine : overloaded_of shares h ≡ None → (p : ℕ) → Overloaded m X h p → ⊥
+    loads_fine e p o = decides_false (over p o.processor) (position_none (overb h) shares p (tick 0) (omega (arith, long, o.processor)) e) o
 
-    pub loads_over : (overloaded_of shares h ≡ PROCESSORS → ⊥) → Least (Overloaded m X h) (overloaded_of shares h)
-    loads_over n = ⊎_elim least (λ z. absurd (n (lowest_none (overb shares h) PROCESSORS PROCESSORS 0 z))) (sought (overb shares h) PROCESSORS 0)
-      where
-        least : (j : ℕ) × FirstPasses (overb shares h) PROCESSORS 0 j → Least (Overloaded m X h) (overloaded_of shares h)
-        least (j, f) =
-            rw (lowest_is (overb shares h) PROCESSORS PROCESSORS 0 j f) (record {
-              holds = decides_true (over j (omega (arith, f.below))) f.passes;
-              least = λ p o. go p o (dec_le j p);
-            })
-          where
-            go : (p : ℕ) → Overloaded m X h p → Dec (j ≤ p) → j ≤ p
-            go p o (yes l) = l
-            go p o (no g) = absurd (decides_false (over p o.processor) (f.first p zero-le (lt_of_not-le g)) o)
+    pub loads_over : (p : ℕ) → overloaded_of shares h ≡ Some p → Least (Overloaded m X h) p
+    loads_over p e =
+        let (l, passes, first) = position-Some (overb h) shares p (tick 0) e in
+        record {
+          holds = decides_true (over p (omega (arith, long))) passes;
+          least = λ q o. le_of_suc-le-suc (lt_of_not-le (λ (b : q < p). decides_false (over q o.processor) (first q b) o));
+        }

@@ -13,7 +13,7 @@ use lib.Bits.{bit_and}
 use lib.Dec.{eqb}
 use lib.ListN.{length, get_or, set, length-set, length-replicate, get_or-eq_default}
 use lib.Seq.{get_or-set_same, get_or-set_other}
-use Rattle.numbers.specs.Bits.{bit, Has, hasb, Within, size, adding, has_or_not, has_decides, within_decides, has_adding, bit_adding_other, bit_removing_same, bit_removing_other, bit_zero, has_below, outside, some_has, size_none, none_size, size_most, size_adding}
+use Rattle.numbers.specs.Bits.{bit, Has, hasb, Within, size, adding, has_or_not, has_decides, within_decides, has_adding, bit_adding_other, bit_removing_same, bit_removing_other, bit_zero, has_below, outside, some_has, none_size, size_most, size_adding}
 use Rattle.numbers.specs.Decides.{Decides, decides_and, decides_true, decides_false}
 use Rattle.numbers.specs.Tab.{get_or_replicated}
 use Rattle.units.specs.Limits.{ACTORS}
@@ -38,7 +38,7 @@ round_next ps o d n = rw add-one
 
 -- a round, unless no actor is left
 abbrev pub turned : List ℕ → ℕ → Order → Order
-turned ps n o = cond (eqb (size ACTORS o.left) 0) o (round_from ps o n ACTORS)
+turned ps n o = cond (eqb o.left 0) o (round_from ps o n ACTORS)
 
 pub order_next : (ps : List ℕ) (active n : ℕ) → order_from ps active (n + 1) ≡ turned ps n (order_from ps active n)
 unfolding order_from
@@ -140,7 +140,7 @@ module _ (ps : List ℕ) (o : Order) (d : ℕ) where
 order_long : (ps : List ℕ) (active n : ℕ) → length (order_from ps active n).depths ≡ ACTORS
 unfolding order_from
 order_long ps active zero = length-replicate {A = ℕ} ACTORS 0
-order_long ps active (suc n) = go (eqb (size ACTORS (order_from ps active n).left) 0) (order_long ps active n)
+order_long ps active (suc n) = go (eqb (order_from ps active n).left 0) (order_long ps active n)
   where
     go : (x : Bool) → length (order_from ps active n).depths ≡ ACTORS
         → length (cond x (order_from ps active n) (round_from ps (order_from ps active n) n ACTORS)).depths ≡ ACTORS
@@ -238,11 +238,11 @@ module _ (m : Mode) (proper : ProperMode m) where
         go false r = left (round_aside (preds_of m) o n ACTORS r x) h (longer h (λ w. decides_false (ready_is (preds_of m) o i) r (x.left, w)))
 
     told_next : Told (turned (preds_of m) n o) (suc n) i
-    told_next = go (eqb (size ACTORS o.left) 0) refl (told i)
+    told_next = go (eqb o.left 0) refl (told i)
       where
-        go : (x : Bool) → eqb (size ACTORS o.left) 0 ≡ x → Told o n i → Told (cond x o (round_from (preds_of m) o n ACTORS)) (suc n) i
+        go : (x : Bool) → eqb o.left 0 ≡ x → Told o n i → Told (cond x o (round_from (preds_of m) o n ACTORS)) (suc n) i
         go true e (done d x h l g) = done d x h (omega arith) g
-        go true e (left x h l) = absurd (size_none ACTORS o.left (eqb-true _ _ e) i h.0 x.left)
+        go true e (left x h l) = absurd (omega (arith, x.left, ap (λ (s : ℕ). bit s i) (eqb-true _ _ e), bit_zero i))
         go true e (idle x h) = idle x h
         go false e t = told_round t
 

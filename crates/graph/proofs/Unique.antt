@@ -2,6 +2,7 @@
 use mathlib.Core.Path.{◌≡◌, refl, sym, ap, subst, ◌∙◌}
 use mathlib.Core.Bool.{Bool, true, false, cond, ◌&&◌}
 use mathlib.Core.List.{List}
+use Rattle.std.specs.Prelude.{Result, Ok, Err}
 use mathlib.Core.Logic.{◌⊎◌, inl, inr}
 use Prim.Native.Nat.{ℕ, ◌<◌}
 use native.Mathlib.Nat.{le_antisymm, not-le_of_lt}
@@ -21,14 +22,14 @@ use Rattle.units.specs.Firings.{firing}
 use Rattle.period.specs.Period.{period_of}
 use Rattle.terms.specs.Place.{number_of}
 use Rattle.tables.specs.Shape.{Mode, Active, actor_at}
-use Rattle.graph.specs.declared.Verdict.TheVariants.{Overloaded as IsOverloaded}
+use Rattle.graph.specs.declared.Fault.{Fault}
+use Rattle.graph.specs.declared.Fault.TheVariants.{Overloaded as IsOverloaded}
 use Rattle.graph.specs.declared.Judgement.{Judgement}
 use Rattle.graph.specs.Order.{Ranked}
 use Rattle.graph.specs.Ends.{Only}
 use Rattle.graph.specs.Balance.{Smallest, Iteration, firings_of}
 use Rattle.graph.specs.Load.{Overloaded, is_on, asked_by, load_of}
 use Rattle.graph.specs.Laws.{iteration_one, iteration_same}
-use Rattle.graph.specs.Nothing.{refused_by}
 use Rattle.graph.specs.Judged.{of_actors, Numbers, Judged, cyclic, no_ends, unbalanced, overloaded, sound}
 
 -- one number at most is the only one
@@ -85,7 +86,6 @@ module _ (m : Mode) where
       let same = smallest_same x y p.smallest q.smallest in
       let h = lengths_same x y p.smallest q.smallest p.iteration q.iteration in
       λ i. record {
-        verdict = (p.verdict ∙ sym q.verdict) i;
         source = only_unique _ p.ends.0 q.ends.0 i;
         sink = only_unique _ p.ends.1 q.ends.1 i;
         iteration = h i;
@@ -95,7 +95,7 @@ module _ (m : Mode) where
             (λ k c. ap (λ (n : ℕ). period_of a.iteration (firings_of m (λ (j : ℕ). n) k)) (same k c) ∙ ap (λ (t : Tick). period_of t (firings_of m y k)) h) ∙ sym q.periods) i;
       }
 
-  pub judged_unique : {a b : Judgement} → Judged m a → Judged m b → a ≡ b
+  pub judged_unique : {a b : Result Judgement Fault} → Judged m a → Judged m b → a ≡ b
   judged_unique (cyclic c) (cyclic d) = refl
   judged_unique (cyclic c) (no_ends n e) = absurd (n c)
   judged_unique (cyclic c) (unbalanced n e u) = absurd (n c)
@@ -115,11 +115,11 @@ module _ (m : Mode) where
   judged_unique (overloaded x n e s i w o) (no_ends k d) = absurd (d _ _ e)
   judged_unique (overloaded x n e s i w o) (unbalanced k d u) = absurd (not-le_of_lt (u x _ s.balances i) w)
   judged_unique (overloaded x n e s i w o) (overloaded y k d r j v q) =
-      ap (λ (p : ℕ). refused_by (IsOverloaded p))
+      ap (λ (p : ℕ). Err (IsOverloaded p))
       (le_antisymm (o.least _ (over_again y x r s j i _ q.holds)) (q.least _ (over_again x y s r i j _ o.holds)))
   judged_unique (overloaded x n e s i w o) (sound y k p f) = absurd (f _ (over_again x y s p.smallest i p.iteration _ o.holds))
   judged_unique (sound x n p f) (cyclic c) = absurd (n c)
   judged_unique (sound x n p f) (no_ends k d) = absurd (d _ _ p.ends)
   judged_unique (sound x n p f) (unbalanced k d u) = absurd (not-le_of_lt (u x _ p.smallest.balances p.iteration) p.within)
   judged_unique (sound x n p f) (overloaded y k d s i w o) = absurd (f _ (over_again y x s p.smallest i p.iteration _ o.holds))
-  judged_unique (sound x n p f) (sound y k q g) = numbers_unique x y _ _ p q
+  judged_unique (sound x n p f) (sound y k q g) = ap Ok (numbers_unique x y _ _ p q)

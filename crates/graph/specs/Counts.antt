@@ -1,5 +1,5 @@
 -- Model of balance.rt: the cycle counts that are found.
-use Rattle.std.specs.Prelude.{◌≡◌, Bool, true, false, cond, ◌&&◌, List, ℕ, zero, suc, ◌+◌, ◌*◌, ◌/◌, ◌%◌, ◌≤◌, ◌<◌, eqb, leb, ltb, length, get_or, set, replicate}
+use Rattle.std.specs.Prelude.{◌≡◌, Bool, true, cond, ◌&&◌, List, Option, None, Some, option_map, option_and_then, ℕ, zero, suc, ◌+◌, ◌*◌, ◌/◌, ◌%◌, ◌≤◌, ◌<◌, eqb, leb, ltb, length, get_or, set, replicate}
 use Rattle.numbers.specs.Bits.{hasb}
 use Rattle.numbers.specs.Tab.{tab}
 use Rattle.units.specs.Bounds.{MOST_CYCLES, MOST_TOKENS}
@@ -7,12 +7,9 @@ use Rattle.units.specs.Limits.{ACTORS}
 use Rattle.units.specs.Tokens.{times_tokens}
 use Rattle.rate.specs.declared.Meeting.{Meeting}
 use Rattle.rate.specs.Reckoned.{meet_of}
-use Rattle.tables.specs.declared.Actor.{Actor}
-use Rattle.tables.specs.declared.Channel.{Channel}
-use Rattle.tables.specs.Shape.{Mode, actor_at, channel_at, Active}
-use Rattle.graph.specs.declared.balance.Counts.{Counts}
+use Rattle.tables.specs.Shape.{Mode, channel_at, Active}
 use Rattle.graph.specs.declared.balance.Flow.{Flow}
-use Rattle.graph.specs.Balance.{cycle_sum, made_on, taken_on}
+use Rattle.graph.specs.Balance.{made_on, taken_on}
 
 -- counts within the limit
 pub record Small (x : List ℕ) : Type 0 where
@@ -36,60 +33,67 @@ pub record FlowIn (f : Flow) : Type 0 where
   pub some : 0 < f.taken.0
   pub taken : f.taken.0 ≤ MOST_TOKENS.0
 
-abbrev pub flow_between : Channel → Actor → Actor → Flow
-flow_between c a b = record { from = c.from; made = cycle_sum a.phases c.production; taken = cycle_sum b.phases c.consumption }
-
+-- the flow of channel k
 abbrev pub flow_of : Mode → ℕ → Flow
-flow_of m k = flow_between (channel_at m k) (actor_at m (channel_at m k).from) (actor_at m (channel_at m k).to)
+flow_of m k = record { from = (channel_at m k).from; to = (channel_at m k).to; made = made_on m k; taken = taken_on m k }
 
 -- an actor that has a depth has an incoming channel: its entry
-abbrev pub Entered : Mode → List ℕ → List ℕ → Type 0
-Entered m es ds = (i : ℕ) → Active m i → 0 < get_or ds i 0 → (get_or es i 0 < m.count) × ((channel_at m (get_or es i 0)).to ≡ i)
+abbrev pub Entered : Mode → List (Option ℕ) → List ℕ → Type 0
+Entered m es ds = (i : ℕ) → Active m i → 0 < get_or ds i 0 → (k : ℕ) × (get_or es i None ≡ Some k) × (k < m.count) × ((channel_at m k).to ≡ i)
 
 -- the channels below k, from the last to the first
-unfoldable pub entries_from : Mode → ℕ → List ℕ → List ℕ
+unfoldable pub entries_from : Mode → ℕ → List (Option ℕ) → List (Option ℕ)
 entries_from m zero es = es
-entries_from m (suc k) es = entries_from m k (set es (channel_at m k).to k)
+entries_from m (suc k) es = entries_from m k (set es (channel_at m k).to (Some k))
 
-abbrev pub entries_of : Mode → List ℕ
-entries_of m = entries_from m m.count (replicate ACTORS 0)
-
-abbrev pub above_limit : Counts
-above_limit = record { good = false; counts = replicate ACTORS 0 }
+-- for each actor its first incoming channel
+abbrev pub entries_of : Mode → List (Option ℕ)
+entries_of m = entries_from m m.count (replicate ACTORS None)
 
 -- the counts of the actors below n stay within the limit
 unfoldable pub stays : List ℕ → ℕ → ℕ → Bool
 stays x t zero = true
 stays x t (suc n) = stays x t n && leb (get_or x n 0 * t) MOST_CYCLES
 
-abbrev pub scaled_of : List ℕ → ℕ → Counts
-scaled_of x t = cond (stays x t ACTORS) (record { good = true; counts = tab ACTORS (λ i. get_or x i 0 * t) }) above_limit
+-- the counts so many times; none where one would be above the limit
+abbrev pub scaled_of : List ℕ → ℕ → Option (List ℕ)
+scaled_of x t = cond (stays x t ACTORS) (Some (tab ACTORS (λ i. get_or x i 0 * t))) None
 
-abbrev pub with_count : Counts → ℕ → ℕ → Counts
-with_count c i n = cond c.good (record { good = true; counts = set c.counts i n }) c
+-- scaled by a meeting, with the count of actor i
+abbrev pub met_by : List ℕ → Meeting → ℕ → Option (List ℕ)
+met_by x g i = cond (ltb MOST_CYCLES g.takers) None (option_map (λ y. set y i g.takers) (scaled_of x g.times))
 
-abbrev pub met_by : List ℕ → Meeting → ℕ → Counts
-met_by x g i = cond (ltb MOST_CYCLES g.takers) above_limit (with_count (scaled_of x g.times) i g.takers)
+-- the counts with that of actor i, which the flow feeds; all scaled so that it is whole
+unfoldable pub fed_of : List ℕ → Flow → ℕ → Option (List ℕ)
+fed_of x f i = met_by x (meet_of (get_or x f.from 0) f.made f.taken) i
 
-unfoldable pub fed_of : Counts → Flow → ℕ → Counts
-fed_of c f i = cond c.good (met_by c.counts (meet_of (get_or c.counts f.from 0) f.made f.taken) i) c
+-- fed by the channel that is its entry
+abbrev pub fed_by : Mode → List ℕ → Option ℕ → ℕ → Option (List ℕ)
+fed_by m x entry i = option_and_then (λ k. fed_of x (flow_of m k) i) entry
 
 -- the actor at the place of n, at the depth of n
 abbrev pub due_at : Mode → List ℕ → ℕ → Bool
 due_at m ds n = hasb m.active (n % ACTORS) && eqb (get_or ds (n % ACTORS) 0) (n / ACTORS + 1)
 
-abbrev pub one_cycle : ℕ → Counts
-one_cycle s = record { good = true; counts = set (replicate ACTORS 0) s 1 }
+-- the source runs one cycle
+abbrev pub one_cycle : ℕ → List ℕ
+one_cycle s = set (replicate ACTORS 0) s 1
 
-unfoldable pub counts_from : Mode → List ℕ → List ℕ → ℕ → ℕ → Counts
-counts_from m es ds s zero = one_cycle s
+-- after n steps; none once one would be above the limit
+unfoldable pub counts_from : Mode → List (Option ℕ) → List ℕ → ℕ → ℕ → Option (List ℕ)
+counts_from m es ds s zero = Some (one_cycle s)
 counts_from m es ds s (suc n) =
-    cond (due_at m ds n) (fed_of (counts_from m es ds s n) (flow_of m (get_or es (n % ACTORS) 0)) (n % ACTORS)) (counts_from m es ds s n)
+    cond (due_at m ds n) (option_and_then (λ x. fed_by m x (get_or es (n % ACTORS) None) (n % ACTORS)) (counts_from m es ds s n)) (counts_from m es ds s n)
 
-abbrev pub counts_of : Mode → List ℕ → ℕ → Counts
+-- after every place at every depth
+abbrev pub counts_of : Mode → List ℕ → ℕ → Option (List ℕ)
 counts_of m ds s = counts_from m (entries_of m) ds s (ACTORS * ACTORS)
+
+-- the counts balance channel k
+abbrev pub evenb : Mode → List ℕ → ℕ → Bool
+evenb m x k = eqb (times_tokens (get_or x (channel_at m k).from 0) (made_on m k)).0 (times_tokens (get_or x (channel_at m k).to 0) (taken_on m k)).0
 
 -- the counts balance the first n channels
 unfoldable pub balancesb : Mode → List ℕ → ℕ → Bool
 balancesb m x zero = true
-balancesb m x (suc n) = balancesb m x n && eqb (times_tokens (get_or x (channel_at m n).from 0) (made_on m n)).0 (times_tokens (get_or x (channel_at m n).to 0) (taken_on m n)).0
+balancesb m x (suc n) = balancesb m x n && evenb m x n

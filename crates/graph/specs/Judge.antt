@@ -1,18 +1,13 @@
 -- Model of lib.rt: the judgement of a mode.
-use Rattle.std.specs.Prelude.{cond, ◌&&◌, List, ℕ, eqb}
-use Rattle.numbers.specs.Bits.{size}
+use Rattle.std.specs.Prelude.{cond, List, Option, None, Some, Result, Ok, Err, ℕ, eqb}
 use Rattle.units.specs.declared.Tick.{Tick}
 use Rattle.units.specs.declared.Firing.{Firing}
-use Rattle.units.specs.Limits.{ACTORS, PROCESSORS}
-use Rattle.period.specs.declared.Length.{Length}
-use Rattle.period.specs.declared.Length.TheVariants.{Is, Above as TooLong}
 use Rattle.tables.specs.Shape.{Mode}
-use Rattle.graph.specs.declared.Verdict.TheVariants.{Cyclic, Ends, Unbalanced, Overloaded, Sound}
+use Rattle.graph.specs.declared.Fault.{Fault}
+use Rattle.graph.specs.declared.Fault.TheVariants.{Cyclic, Ends, Unbalanced, Overloaded}
 use Rattle.graph.specs.declared.Judgement.{Judgement}
 use Rattle.graph.specs.declared.order.Order.{Order}
-use Rattle.graph.specs.declared.balance.Counts.{Counts}
-use Rattle.graph.specs.Nothing.{refused_by}
-use Rattle.graph.specs.Rounds.{preds_of, order_of, firsts_of, lasts_of, lowest_of}
+use Rattle.graph.specs.Rounds.{preds_of, order_of, firsts_of, lasts_of, only_of}
 use Rattle.graph.specs.Counts.{counts_of, balancesb}
 use Rattle.graph.specs.Lengths.{firings_in, works_in, length_of, periods_in, shares_in, overloaded_of}
 
@@ -20,7 +15,6 @@ use Rattle.graph.specs.Lengths.{firings_in, works_in, length_of, periods_in, sha
 abbrev pub sound_by : Mode → List ℕ → ℕ → ℕ → List Firing → Tick → Judgement
 sound_by m ds s t qs h =
     record {
-      verdict = Sound;
       source = s;
       sink = t;
       iteration = h;
@@ -29,31 +23,41 @@ sound_by m ds s t qs h =
       periods = periods_in h qs m.active;
     }
 
--- where the iteration is within its limit, the load decides
-abbrev pub loaded : Mode → List ℕ → ℕ → ℕ → List Firing → List Tick → Length → Judgement
-loaded m ds s t qs ws TooLong = refused_by Unbalanced
-loaded m ds s t qs ws (Is h) =
-    cond (eqb (overloaded_of (shares_in m.actors ws) h) PROCESSORS) (sound_by m ds s t qs h)
-    (refused_by (Overloaded (overloaded_of (shares_in m.actors ws) h)))
+-- a processor that is above its limit refuses it
+abbrev pub loaded : Mode → List ℕ → ℕ → ℕ → List Firing → Tick → Option ℕ → Result Judgement Fault
+loaded m ds s t qs h (Some p) = Err (Overloaded p)
+loaded m ds s t qs h None = Ok (sound_by m ds s t qs h)
 
-unfoldable pub timed_of : Mode → List ℕ → ℕ → ℕ → List ℕ → Judgement
+-- where the iteration is within its limit, the load decides
+abbrev pub lasting : Mode → List ℕ → ℕ → ℕ → List Firing → List Tick → Option Tick → Result Judgement Fault
+lasting m ds s t qs ws None = Err Unbalanced
+lasting m ds s t qs ws (Some h) = loaded m ds s t qs h (overloaded_of (shares_in m.actors ws) h)
+
+-- by the counts x: their firings, works and length
+unfoldable pub timed_of : Mode → List ℕ → ℕ → ℕ → List ℕ → Result Judgement Fault
 timed_of m ds s t x =
-    loaded m ds s t (firings_in m.actors x) (works_in m.actors (firings_in m.actors x))
+    lasting m ds s t (firings_in m.actors x) (works_in m.actors (firings_in m.actors x))
     (length_of (works_in m.actors (firings_in m.actors x)) (firings_in m.actors x) m.active)
 
-abbrev pub by_counts : Mode → List ℕ → ℕ → ℕ → Counts → Judgement
-by_counts m ds s t c = cond (c.good && balancesb m c.counts m.count) (timed_of m ds s t c.counts) (refused_by Unbalanced)
+-- by the counts that are found: where there are none, or a channel is uneven, the mode is unbalanced
+abbrev pub by_counts : Mode → List ℕ → ℕ → ℕ → Option (List ℕ) → Result Judgement Fault
+by_counts m ds s t None = Err Unbalanced
+by_counts m ds s t (Some x) = cond (balancesb m x m.count) (timed_of m ds s t x) (Err Unbalanced)
 
-unfoldable pub balanced_of : Mode → List ℕ → ℕ → ℕ → Judgement
+-- by the depths and the two ends
+unfoldable pub balanced_of : Mode → List ℕ → ℕ → ℕ → Result Judgement Fault
 balanced_of m ds s t = by_counts m ds s t (counts_of m ds s)
 
-abbrev pub by_order : Mode → List ℕ → Order → Judgement
-by_order m ps o =
-    cond (eqb o.left 0)
-    (cond (eqb (size ACTORS (firsts_of ps m.active)) 1 && eqb (size ACTORS (lasts_of ps m.active)) 1)
-    (balanced_of m o.depths (lowest_of (firsts_of ps m.active)) (lowest_of (lasts_of ps m.active)))
-    (refused_by Ends))
-    (refused_by Cyclic)
+-- by the one source and the one sink, where each is found
+abbrev pub by_ends : Mode → List ℕ → Option ℕ → Option ℕ → Result Judgement Fault
+by_ends m ds (Some s) (Some t) = balanced_of m ds s t
+by_ends m ds (Some s) None = Err Ends
+by_ends m ds None t = Err Ends
 
-unfoldable pub judge_of : Mode → Judgement
+-- by the order: where an actor is left there is a cycle
+abbrev pub by_order : Mode → List ℕ → Order → Result Judgement Fault
+by_order m ps o = cond (eqb o.left 0) (by_ends m o.depths (only_of (firsts_of ps m.active)) (only_of (lasts_of ps m.active))) (Err Cyclic)
+
+-- the judgement of a mode
+unfoldable pub judge_of : Mode → Result Judgement Fault
 judge_of m = by_order m (preds_of m) (order_of (preds_of m) m.active)

@@ -1,5 +1,4 @@
 -- The rules of a mode's graph, and then the models of the code that finds it.
-pub mod Nothing
 pub mod Order
 pub mod Ends
 pub mod Balance

@@ -1,157 +1,125 @@
 // The smallest cycle counts that balance a mode's channels.
-ghost use Rattle.std.specs.Prelude.{◌≡◌, ◌*◌, ◌<◌, ◌≤◌, length};
+ghost use Rattle.std.specs.Prelude.{◌≡◌, ◌*◌, ◌<◌, ◌≤◌};
 ghost use Rattle.units.specs.Bounds.{MOST_TOKENS};
-ghost use Rattle.units.specs.Limits.{ACTORS, PHASES};
-ghost use Rattle.tables.specs.Memory.{head_in, mode_in, Stands};
-ghost use Rattle.graph.specs.Counts.{Small, FlowIn, Shallow, Entered, flow_between, entries_of, above_limit, scaled_of, fed_of, counts_from, balancesb};
+ghost use Rattle.units.specs.Limits.{ACTORS};
+ghost use Rattle.tables.specs.Stored.{mode_of};
+ghost use Rattle.graph.specs.Counts.{Small, FlowIn, Shallow, Entered, flow_of, entries_of, scaled_of, fed_of, counts_from, evenb, balancesb};
 
 use bits::has;
 use numbers::extreme::greatest;
-use tables::memory::{actor_at, channel_at, head_of};
-use tables::{Actor, Channel};
+use tables::memory::InMemory;
 use units::Token;
 use units::bounds::MOST_CYCLES;
 use units::limits::ACTORS;
 
-// A channel by its producer and the tokens that a cycle of the one makes and a cycle of the other takes.
+// A channel by its two actors and the tokens that a cycle of the one makes and a cycle of the other takes.
 #[derive(Drop)]
 pub(crate) struct Flow {
     pub from: usize,
+    pub to: usize,
     pub made: Token,
     pub taken: Token,
 }
 
-// Cycle counts, 0 for actors that have none yet; or that one is above the limit.
-#[derive(Drop)]
-pub(crate) struct Counts {
-    pub good: bool,
-    pub counts: [u64; ACTORS],
-}
-
-fn flow_of(channel: Channel, maker: Actor, taker: Actor) -> Flow
-    requires { (maker.phases ≤ PHASES) × (taker.phases ≤ PHASES) }
-    ensures { result ≡ flow_between channel maker taker }
+// Channel k.
+fn flow_at(mode: &InMemory, k: usize) -> Flow
+    requires { k < (mode_of mode.now).count }
+    ensures { result ≡ flow_of (mode_of mode.now) k }
 {
-    let production = channel.production;
-    let consumption = channel.consumption;
+    let channel = mode.channel(k);
+    let maker = mode.actor(channel.from);
+    let taker = mode.actor(channel.to);
     Flow {
         from: channel.from,
-        made: rate::cycle_tokens(production, maker.phases),
-        taken: rate::cycle_tokens(consumption, taker.phases),
+        to: channel.to,
+        made: rate::cycle_tokens(channel.production, maker.phases),
+        taken: rate::cycle_tokens(channel.consumption, taker.phases),
     }
 }
 
-// For each actor its first incoming channel; 0 where it has none.
-pub(crate) fn entries_of(front: &[u64], channels: &[u8]) -> [usize; ACTORS]
-    requires { Stands front.now channels.now }
-    ensures { result ≡ entries_of (mode_in front.now channels.now) }
+// For each actor its first incoming channel.
+pub(crate) fn entries_of(mode: &InMemory) -> [Option<usize>; ACTORS]
+    ensures { result ≡ entries_of (mode_of mode.now) }
 {
-    let head = head_of(front);
-    let mut entries = [0usize; ACTORS];
-    let mut k = head.count;
-    while 0 < k {
-        k -= 1;
-        let channel = channel_at(channels, k);
-        let to = channel.to;
-        entries[to] = k;
+    let count = mode.count();
+    let mut entries = [None; ACTORS];
+    // k is a channel's place in the mode, and is what is kept; the first is written last
+    for k in (0..count).rev() {
+        let channel = mode.channel(k);
+        entries[channel.to] = Some(k);
     }
     entries
 }
 
-fn above() -> Counts
-    ensures { result ≡ above_limit }
-{
-    Counts {
-        good: false,
-        counts: [0; ACTORS],
-    }
-}
-
-// All counts so many times.
-fn scaled(counts: [u64; ACTORS], times: u64) -> Counts
+// All counts so many times, where none is above the limit.
+fn scaled(counts: [u64; ACTORS], times: u64) -> Option<[u64; ACTORS]>
     requires { Small counts × (times ≤ MOST_TOKENS.0) }
     ensures { result ≡ scaled_of counts times }
 {
-    let mut next = counts;
-    for i in 0..ACTORS {
-        let count = next[i] * times;
-        if MOST_CYCLES < count {
-            return above();
+    let mut next = [0u64; ACTORS];
+    for (i, count) in counts.iter().enumerate() {
+        let scaled = *count * times;
+        if MOST_CYCLES < scaled {
+            return None;
         }
-        next[i] = count;
+        next[i] = scaled;
     }
-    Counts {
-        good: true,
-        counts: next,
-    }
+    Some(next)
 }
 
 // The counts with that of actor i, which a channel feeds; all scaled so that it is whole.
-fn fed(now: Counts, flow: Flow, i: usize) -> Counts
-    requires { Small now.counts × FlowIn flow × (i < ACTORS) }
-    ensures { result ≡ fed_of now flow i }
+fn fed(counts: [u64; ACTORS], flow: Flow, i: usize) -> Option<[u64; ACTORS]>
+    requires { Small counts × FlowIn flow × (i < ACTORS) }
+    ensures { result ≡ fed_of counts flow i }
 {
-    if !now.good {
-        return now;
-    }
-    let counts = now.counts;
-    let from = flow.from;
-    let meeting = rate::meet(counts[from], flow.made, flow.taken);
+    let meeting = rate::meet(counts[flow.from], flow.made, flow.taken);
     if MOST_CYCLES < meeting.takers {
-        return above();
+        return None;
     }
-    let mut next = scaled(counts, meeting.times);
-    if next.good {
-        next.counts[i] = meeting.takers;
-    }
-    next
+    let mut next = scaled(counts, meeting.times)?;
+    next[i] = meeting.takers;
+    Some(next)
 }
 
-// The source runs one cycle, and the others follow by depth, and within a depth by place.
+// The source runs one cycle, and the others follow by depth, and within a depth by place; none where one would be above the limit.
 pub(crate) fn counts_of(
-    front: &[u64],
-    channels: &[u8],
-    entries: [usize; ACTORS],
+    mode: &InMemory,
+    entries: [Option<usize>; ACTORS],
     depths: [usize; ACTORS],
     source: usize,
-) -> Counts
-    requires { Stands front.now channels.now × (length entries ≡ ACTORS) × Shallow depths × Entered (mode_in front.now channels.now) entries depths × (source < ACTORS) }
-    ensures { result ≡ counts_from (mode_in front.now channels.now) entries depths source (ACTORS * ACTORS) }
+) -> Option<[u64; ACTORS]>
+    requires { Shallow depths × Entered (mode_of mode.now) entries depths × (source < ACTORS) }
+    ensures { result ≡ counts_from (mode_of mode.now) entries depths source (ACTORS * ACTORS) }
 {
-    let head = head_of(front);
+    let active = mode.active();
     let last = greatest(&depths);
+    // 0 for an actor that has no count yet: no count is 0, and 0 is scaled to 0
     let mut counts = [0u64; ACTORS];
     counts[source] = 1;
-    let mut now = Counts { good: true, counts };
+    // n goes through the places once for each depth: a function of one depth is no plainer, as it would ask for the source to say what came before
     for n in 0..ACTORS * last {
         let i = n % ACTORS;
-        if has(head.active, i) {
-            if depths[i] == n / ACTORS + 1 {
-                let entry = entries[i];
-                let channel = channel_at(channels, entry);
-                let maker = actor_at(front, channel.from);
-                let taker = actor_at(front, i);
-                now = fed(now, flow_of(channel, maker, taker), i);
-            }
+        if has(active, i) && depths[i] == n / ACTORS + 1 {
+            let entry = entries[i].unwrap();
+            counts = fed(counts, flow_at(mode, entry), i)?;
         }
     }
-    now
+    Some(counts)
+}
+
+// Whether the counts balance channel k.
+fn balances_at(mode: &InMemory, counts: &[u64], k: usize) -> bool
+    requires { Small counts.now × (k < (mode_of mode.now).count) }
+    ensures { result ≡ evenb (mode_of mode.now) counts.now k }
+{
+    let flow = flow_at(mode, k);
+    rate::even(counts[flow.from], flow.made, counts[flow.to], flow.taken)
 }
 
 // Whether the counts balance each channel.
-pub(crate) fn balances(front: &[u64], channels: &[u8], counts: [u64; ACTORS]) -> bool
-    requires { Stands front.now channels.now × Small counts }
-    ensures { result ≡ balancesb (mode_in front.now channels.now) counts (head_in front.now).count }
+pub(crate) fn balances(mode: &InMemory, counts: [u64; ACTORS]) -> bool
+    requires { Small counts }
+    ensures { result ≡ balancesb (mode_of mode.now) counts (mode_of mode.now).count }
 {
-    let head = head_of(front);
-    for k in 0..head.count {
-        let channel = channel_at(channels, k);
-        let from = channel.from;
-        let to = channel.to;
-        let flow = flow_of(channel, actor_at(front, from), actor_at(front, to));
-        if !rate::even(counts[from], flow.made, counts[to], flow.taken) {
-            return false;
-        }
-    }
-    true
+    (0..mode.count()).all(|k| balances_at(mode, &counts, k))
 }

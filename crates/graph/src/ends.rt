@@ -1,22 +1,19 @@
 // The actors without incoming and without outgoing channels.
-ghost use Rattle.std.specs.Prelude.{◌≡◌, length};
+ghost use Rattle.std.specs.Prelude.{◌≡◌};
 ghost use Rattle.units.specs.Limits.{ACTORS};
-ghost use Rattle.graph.specs.Rounds.{firsts_of, givers_from, lasts_of, lowest_of};
+ghost use Rattle.graph.specs.Rounds.{firsts_of, givers_from, lasts_of, only_of};
 
-use bits::{has, with};
+use bits::{has, size, with};
 use units::limits::ACTORS;
 
 // The active actors that no channel leads to.
 pub(crate) fn firsts(preds: [u16; ACTORS], active: u16) -> u16
-    requires { length preds ≡ ACTORS }
     ensures { result ≡ firsts_of preds active }
 {
     let mut set: u16 = 0;
-    for i in 0..ACTORS {
-        if has(active, i) {
-            if preds[i] == 0 {
-                set = with(set, i);
-            }
+    for (i, froms) in preds.iter().enumerate() {
+        if has(active, i) && *froms == 0 {
+            set = with(set, i);
         }
     }
     set
@@ -24,41 +21,29 @@ pub(crate) fn firsts(preds: [u16; ACTORS], active: u16) -> u16
 
 // The actors from which a channel leads to some other.
 fn givers(preds: [u16; ACTORS]) -> u16
-    requires { length preds ≡ ACTORS }
     ensures { result ≡ givers_from preds ACTORS }
 {
     let mut set: u16 = 0;
-    for i in 0..ACTORS {
-        set = set | preds[i];
+    for froms in preds.iter() {
+        set |= *froms;
     }
     set
 }
 
 // The active actors that no channel leads from.
 pub(crate) fn lasts(preds: [u16; ACTORS], active: u16) -> u16
-    requires { length preds ≡ ACTORS }
     ensures { result ≡ lasts_of preds active }
 {
-    let givers = givers(preds);
-    let mut set: u16 = 0;
-    for i in 0..ACTORS {
-        if has(active, i) {
-            if !has(givers, i) {
-                set = with(set, i);
-            }
-        }
-    }
-    set
+    active & !givers(preds)
 }
 
-// The lowest number of a set that is not empty.
-pub(crate) fn lowest(set: u16) -> usize
-    ensures { result ≡ lowest_of set }
+// The number of a set that has one number only.
+pub(crate) fn only(set: u16) -> Option<usize>
+    ensures { result ≡ only_of set }
 {
-    for i in 0..ACTORS {
-        if has(set, i) {
-            return i;
-        }
+    if size(set) == 1 {
+        (0..ACTORS).find(|i| has(set, *i))
+    } else {
+        None
     }
-    0
 }

@@ -1,12 +1,11 @@
 // What the actors of a mode ask of the processors.
-ghost use Rattle.std.specs.Prelude.{◌≡◌, ◌<◌, length};
-ghost use Rattle.units.specs.Limits.{PROCESSORS};
-ghost use Rattle.graph.specs.Lengths.{Fitting, Light, shares_in, overloaded_of};
+ghost use Rattle.std.specs.Prelude.{◌≡◌, ◌<◌};
+ghost use Rattle.graph.specs.Lengths.{Fitting, Light, shares_in, overb, overloaded_of};
 
 use numbers::fraction::at_most;
 use tables::Actor;
-use units::Tick;
 use units::limits::{ACTORS, LOAD_LIMIT, PROCESSORS};
+use units::{Count, Tick};
 
 // The ticks of an iteration that each processor works.
 pub(crate) fn shares_of(actors: [Actor; ACTORS], works: [Tick; ACTORS]) -> [Tick; PROCESSORS]
@@ -14,8 +13,8 @@ pub(crate) fn shares_of(actors: [Actor; ACTORS], works: [Tick; ACTORS]) -> [Tick
     ensures { result ≡ shares_in actors works }
 {
     let mut shares = [Tick::NONE; PROCESSORS];
-    for i in 0..ACTORS {
-        let actor = actors[i];
+    // i is the place in both lists, of which the invariant speaks: a loop over a zip of the two names no place
+    for (i, actor) in actors.iter().enumerate() {
         if actor.processor != 0 {
             let p = actor.processor - 1;
             shares[p] = shares[p].plus(works[i]);
@@ -24,15 +23,18 @@ pub(crate) fn shares_of(actors: [Actor; ACTORS], works: [Tick; ACTORS]) -> [Tick
     shares
 }
 
-// The place of the lowest processor whose load is above the limit; the one behind all of them where there is none.
-pub(crate) fn overloaded(shares: [Tick; PROCESSORS], iteration: Tick) -> usize
-    requires { (length shares ≡ PROCESSORS) × (0 < iteration.0) }
+// Whether so many ticks of an iteration are more than the limit of a load.
+fn over(share: Tick, iteration: Tick) -> bool
+    requires { 0 < iteration.0 }
+    ensures { result ≡ overb iteration share }
+{
+    !at_most(period::share(share, iteration), LOAD_LIMIT)
+}
+
+// The place of the lowest processor whose load is above the limit.
+pub(crate) fn overloaded(shares: [Tick; PROCESSORS], iteration: Tick) -> Option<usize>
+    requires { 0 < iteration.0 }
     ensures { result ≡ overloaded_of shares iteration }
 {
-    for p in 0..PROCESSORS {
-        if !at_most(period::share(shares[p], iteration), LOAD_LIMIT) {
-            return p;
-        }
-    }
-    PROCESSORS
+    shares.iter().position(|share| over(*share, iteration))
 }

@@ -1,14 +1,14 @@
 -- What is laid into the words of a mode, part by part. Assumes nothing.
 use mathlib.Core.Path.{◌≡◌, refl, sym, ap, ap₂, subst₂, ◌∙◌}
-use mathlib.Core.Bool.{Bool, cond, not}
-use mathlib.Core.List.{List, [], ◌∷◌, ◌++◌, append_assoc}
+use mathlib.Core.Bool.{Bool, cond}
+use mathlib.Core.List.{List, ◌++◌, append_assoc}
 use Prim.Native.Nat.{ℕ, ◌+◌, ◌-◌, ◌*◌, ◌≤◌, ◌<◌}
 use native.Mathlib.Decide.{dec_lt}
 use native.Mathlib.Omega.{arith}
 use borrow.Rule.Slice.PartMut.{put_mid}
 use borrow.Author.Tests.{lt-ltb, le-ltb}
-use lib.Dec.{ltb, eqb}
-use lib.ListN.{length, length-append, get_or, set, take, drop, length-take, length-drop, replicate, length-replicate}
+use lib.Dec.{ltb}
+use lib.ListN.{length, length-append, get_or, take, drop, length-take, length-drop, replicate, length-replicate}
 use lib.Seq.{take_all, drop_at, get_or-take}
 use Rattle.numbers.specs.Joined.{joined, part, joined_same, length_joined, joined_part}
 use Rattle.numbers.specs.Tab.{tab, is_tab}
@@ -26,15 +26,7 @@ use Rattle.tables.proofs.Remembered.{actor_words_law, channel_stretch, actor_in_
 use Rattle.planning.specs.declared.ModePlan.{ModePlan}
 use Rattle.layout.specs.declared.load.Pace.{Pace}
 use Rattle.layout.specs.Words.{CHANNEL_WORDS, MODE_WORDS, head_with, times_at, mode_words}
-use Rattle.layout.specs.Blocks.{timed_actor, carried_at, carried_words, channel_laid, mode_laid, Closed, Ended, pace_of}
-
--- the last three words of an actor, stored one by one
-pub times_stored : (l : List ℕ) (t : Times) (firings period start : ℕ) → length l ≡ ACTOR_WORDS → firings ≡ t.firings.0 → period ≡ t.period.0 → start ≡ t.start.0
-    → set (set (set l 3 firings) 4 period) 5 start ≡ actor_words (actor_of l) t
-unfolding tab
-times_stored l t firings period start long e f g =
-    ap (λ (l : List ℕ). set (set (set l 3 firings) 4 period) 5 start) (is_tab ACTOR_WORDS (λ j. get_or l j 0) l 0 long (λ j h. refl))
-    ∙ λ x. get_or l 0 0 ∷ (get_or l 1 0 ∷ (get_or l 2 0 ∷ (e x ∷ (f x ∷ (g x ∷ [])))))
+use Rattle.layout.specs.Blocks.{timed_actor, carried_at, carried_words, channel_laid, mode_laid, Closed, Ended}
 
 -- an actor's words are the actor and what is planned of it
 pub actor_whole : (l : List ℕ) → length l ≡ ACTOR_WORDS → l ≡ actor_words (actor_of l) (times_of l)
@@ -169,12 +161,12 @@ module _ (f l copied front carried : List ℕ) (p : ModePlan) (e : copied ≡ f)
   pub copied_laid : mode_laid front l carried ≡ mode_words (mode_in f l) p
   copied_laid = ap₂ (λ (x y : List ℕ). mode_laid x l y) planned carried_are ∙ mode_laid_law f l p
 
--- the pace of a mode stands in its front
+-- the pace of a mode that is listed stands in its front
 pub pace_read : (w : List ℕ) (h : Head) (t : Times) → get_or w 4 0 < ACTORS → h ≡ head_in (take FRONT_WORDS w) → t ≡ times_in (take FRONT_WORDS w) h.sink
-    → ◌≡◌ {A = Pace} (record { listed = not (eqb (get_or w 0 0) 0); iteration = h.iteration; sink_start = t.start }) (pace_of w)
+    → ◌≡◌ {A = Pace} (record { iteration = h.iteration; sink_start = t.start }) (record { iteration = tick (get_or w 2 0); sink_start = (times_in w (get_or w 4 0)).start })
 pace_read w h t l e g =
     let sink : h.sink ≡ get_or w 4 0 = ap (λ (h : Head). h.sink) e ∙ get_or-take FRONT_WORDS w 4 0 (omega arith) in
-    ap₂ (λ (i s : Tick). record { listed = not (eqb (get_or w 0 0) 0); iteration = i; sink_start = s })
+    ap₂ (λ (i s : Tick). record { iteration = i; sink_start = s })
     (ap (λ (h : Head). h.iteration) e ∙ ap tick (get_or-take FRONT_WORDS w 2 0 (omega arith)))
     (ap (λ (t : Times). t.start) g
     ∙ ap (λ (n : ℕ). (times_in (take FRONT_WORDS w) n).start) sink

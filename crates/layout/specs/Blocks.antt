@@ -1,5 +1,5 @@
 -- Single blocks of the words, by themselves.
-use Rattle.std.specs.Prelude.{◌≡◌, not, List, [], ◌∷◌, ◌++◌, ℕ, ◌+◌, ◌*◌, ◌%◌, ◌≤◌, ◌<◌, eqb, get_or, replicate}
+use Rattle.std.specs.Prelude.{◌≡◌, cond, Option, Some, None, List, [], ◌∷◌, ◌++◌, ℕ, ◌+◌, ◌*◌, ◌%◌, ◌≤◌, ◌<◌, eqb, get_or, replicate}
 use Rattle.numbers.specs.Joined.{joined, part}
 use Rattle.numbers.specs.Tab.{stretch_of}
 use Rattle.units.specs.Limits.{CHANNELS}
@@ -53,11 +53,6 @@ link_of l = record { from = get_or l 0 0 % 256; to = get_or l 1 0 % 256; size = 
 abbrev pub timing_of : List ℕ → Timing
 timing_of l = record { overlap = tick (get_or l 0 0); offset = tick (get_or l 1 0); worst = tick (get_or l 2 0) }
 
--- what the words of a mode say of its pace
-abbrev pub pace_of : List ℕ → Pace
-pace_of l =
-    record {
-      listed = not (eqb (get_or l 0 0) 0);
-      iteration = tick (get_or l 2 0);
-      sink_start = (times_in l (get_or l 4 0)).start;
-    }
+-- what the words of a mode say of its pace, where they list one
+abbrev pub pace_of : List ℕ → Option Pace
+pace_of l = cond (eqb (get_or l 0 0) 0) None (Some (record { iteration = tick (get_or l 2 0); sink_start = (times_in l (get_or l 4 0)).start }))

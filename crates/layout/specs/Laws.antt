@@ -1,5 +1,5 @@
 -- The words of a plan are as many as the buffer has, and hold the table.
-use Rattle.std.specs.Prelude.{◌≡◌, not, List, [], ◌∷◌, ◌++◌, ℕ, zero, suc, ◌+◌, ◌*◌, ◌%◌, ◌≤◌, ◌<◌, eqb, get_or, drop, replicate}
+use Rattle.std.specs.Prelude.{◌≡◌, cond, Some, None, List, [], ◌∷◌, ◌++◌, ℕ, zero, suc, ◌+◌, ◌*◌, ◌%◌, ◌≤◌, ◌<◌, eqb, get_or, drop, replicate}
 use Rattle.std.proofs.Math.Path.{refl, sym, ap, ap₂}
 use Rattle.std.proofs.Common.{subst, ◌∙◌, mod-eq_of_lt, arith, length-append, take_at, drop_at}
 use Rattle.std.proofs.Math.Decide.{dec_lt}
@@ -12,7 +12,7 @@ use Rattle.tables.specs.declared.Channel.{Channel}
 use Rattle.tables.specs.declared.memory.Times.{Times}
 use Rattle.tables.specs.Shape.{Mode, Table, no_mode, empty_channel, actor_at, channel_at, mode_at}
 use Rattle.tables.specs.Proper.{ProperMode, ProperTable}
-use Rattle.tables.specs.Memory.{FRONT_WORDS, CHANNEL_BYTES, rate_words, channel_bytes, head_of, channels_of, mode_in, actors_at}
+use Rattle.tables.specs.Memory.{FRONT_WORDS, CHANNEL_BYTES, rate_words, channel_bytes, head_of, channels_of, mode_in, actors_at, times_in}
 use Rattle.tables.proofs.Remembered.{length_front, front_times, mode_in_law}
 use Rattle.planning.specs.declared.ModePlan.{ModePlan}
 use Rattle.change.specs.declared.Timing.{Timing}
@@ -130,12 +130,21 @@ changes_words_law t w = drop_at (modes_words t w) (changes_words w.changes) (MOD
 pub offset_words : (cs : List Timing) (n : ℕ) → n < CHANGES → get_or (changes_words cs) (CHANGE_WORDS * n + 1) 0 ≡ (get_or cs n no_timing).offset.0
 offset_words cs n l = get_or_joined CHANGE_WORDS (change_words_at cs) (λ k. refl) CHANGES n 1 0 l (omega arith)
 
--- the pace of a mode stands in its words
-pub pace_words : (m : Mode) (p : ModePlan) → p.sink < ACTORS
-    → pace_of (mode_words m p) ≡ record { listed = not (eqb m.active 0); iteration = p.iteration; sink_start = get_or p.starts p.sink (tick 0) }
+-- the start of a mode's sink stands in its words
+sink_held : (m : Mode) (p : ModePlan) → p.sink < ACTORS → get_or (mode_words m p) (actors_at p.sink + 5) 0 ≡ (get_or p.starts p.sink (tick 0)).0
 unfolding mode_words
-pace_words m p l =
-    let start : get_or (mode_words m p) (actors_at p.sink + 5) 0 ≡ (get_or p.starts p.sink (tick 0)).0
-    = get_or-append (planned_front m p) (joined CHANNELS (channel_words_at m p)) 0 (actors_at p.sink + 5) (omega (arith, length_planned m p))
-    ∙ ap (λ (t : Times). t.start.0) (front_times (head_with (head_of m) p) (actor_at m) (times_at p) p.sink l) in
-    ap (λ (n : ℕ). record { listed = not (eqb m.active 0); iteration = p.iteration; sink_start = tick n }) start
+sink_held m p l =
+    get_or-append (planned_front m p) (joined CHANNELS (channel_words_at m p)) 0 (actors_at p.sink + 5) (omega (arith, length_planned m p))
+    ∙ ap (λ (t : Times). t.start.0) (front_times (head_with (head_of m) p) (actor_at m) (times_at p) p.sink l)
+
+-- the pace of a mode stands in its words, where it is listed
+pub pace_words : (m : Mode) (p : ModePlan) → p.sink < ACTORS
+    → pace_of (mode_words m p) ≡ cond (eqb m.active 0) None (Some (record { iteration = p.iteration; sink_start = get_or p.starts p.sink (tick 0) }))
+unfolding mode_words
+pace_words m p l = ap (λ (n : ℕ). cond (eqb m.active 0) None (Some (record { iteration = p.iteration; sink_start = tick n }))) (sink_held m p l)
+
+-- and its iteration and its sink's start stand there, whether it is listed or not
+pub pace_held : (m : Mode) (p : ModePlan) → p.sink < ACTORS
+    → (tick (get_or (mode_words m p) 2 0) ≡ p.iteration) × ((times_in (mode_words m p) (get_or (mode_words m p) 4 0)).start ≡ get_or p.starts p.sink (tick 0))
+unfolding mode_words
+pace_held m p l = (refl, ap tick (sink_held m p l))

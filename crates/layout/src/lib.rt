@@ -8,7 +8,8 @@ pub mod store;
 use tables::memory::{CHANNEL_BYTES, FRONT_WORDS};
 use units::limits::{CHANNELS, MODES};
 
-// The words of a channel, of a mode, of a change, and of the buffer; and where the changes begin.
+// The words of a channel, of a mode, of a change, and of the buffer; where the changes begin, and how many there are.
+// Places of words are reckoned from these widths, since the plan is one array that C lends, laid out by docs/PLAN.md.
 pub const CHANNEL_WORDS: usize = CHANNEL_BYTES + 2;
 
 pub const MODE_WORDS: usize = FRONT_WORDS + CHANNEL_WORDS * CHANNELS;

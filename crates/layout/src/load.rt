@@ -18,8 +18,8 @@ fn bytes_of(words: &[u64], bytes: &mut [u8])
     requires { (length words.now ≡ CHANNEL_WORDS) × (length bytes.old ≡ CHANNEL_BYTES) }
     ensures { bytes.new ≡ cut_bytes words.now }
 {
-    for k in 0..CHANNEL_BYTES {
-        bytes[k] = (words[k] % 256) as u8;
+    for (k, byte) in bytes.iter_mut().enumerate() {
+        *byte = (words[k] % 256) as u8;
     }
 }
 
@@ -28,6 +28,7 @@ pub fn channels_of(words: &[u64], channels: &mut [u8])
     requires { (length words.now ≡ CHANNEL_WORDS * CHANNELS_LIMIT) × (length channels.old ≡ CHANNELS_BYTES) }
     ensures { channels.new ≡ bytes_in words.now }
 {
+    // k is a channel's place, in the words and in the bytes.
     for k in 0..CHANNELS {
         let a = CHANNEL_WORDS * k;
         let b = a + CHANNEL_WORDS;
@@ -59,28 +60,27 @@ pub fn link_of(words: &[u64]) -> Link
     }
 }
 
-// What a machine needs of a mode: whether it is listed, its iteration, and the tick set for the first firing of its sink.
-#[derive(Drop)]
+// What a machine needs of a mode that is listed: its iteration, and the tick set for the first firing of its sink.
+#[derive(Clone, Copy)]
 pub struct Pace {
-    pub listed: bool,
     pub iteration: Tick,
     pub sink_start: Tick,
 }
 
-// The pace of the mode that its words hold.
-pub fn pace_of(words: &[u64]) -> Pace
+// The pace of the mode that its words hold, where they list one: the set of its active actors is not empty.
+pub fn pace_of(words: &[u64]) -> Option<Pace>
     requires { (length words.now ≡ MODE_WORDS) × (get_or words.now 4 0 < ACTORS) }
     ensures { result ≡ pace_of words.now }
 {
+    if words[0] == 0 {
+        return None;
+    }
     let head = head_of(&words[0..FRONT_WORDS]);
     let times = times_at(&words[0..FRONT_WORDS], head.sink);
-    let iteration = head.iteration;
-    let sink_start = times.start;
-    Pace {
-        listed: words[0] != 0,
-        iteration,
-        sink_start,
-    }
+    Some(Pace {
+        iteration: head.iteration,
+        sink_start: times.start,
+    })
 }
 
 // The change that its words hold.

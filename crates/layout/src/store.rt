@@ -1,4 +1,4 @@
-// The words are written: each function is lent the part that it fills.
+// The words are written: each function is lent the part that it fills, and hands nothing out, since the memory is the caller's in C.
 ghost use Rattle.std.specs.Prelude.{◌≡◌, [], ◌∷◌, ◌++◌, ◌*◌, ◌≤◌, length};
 ghost use Rattle.numbers.specs.Joined.{joined};
 ghost use Rattle.units.specs.Limits.{ACTORS as ACTORS_LIMIT, CHANNELS as CHANNELS_LIMIT};
@@ -20,12 +20,13 @@ fn put_head(head: Head, part: ModePlan, words: &mut [u64])
     requires { length words.old ≡ HEAD_WORDS }
     ensures { words.new ≡ head_words (head_with head part) }
 {
-    let iteration = part.iteration;
-    words[0] = head.active as u64;
-    words[1] = head.count as u64;
-    words[2] = iteration.ticks();
-    words[3] = part.source as u64;
-    words[4] = part.sink as u64;
+    words.copy_from_slice(&[
+        head.active as u64,
+        head.count as u64,
+        part.iteration.ticks(),
+        part.source as u64,
+        part.sink as u64,
+    ]);
 }
 
 // What is planned of an actor.
@@ -33,28 +34,26 @@ fn put_times(times: Times, words: &mut [u64])
     requires { length words.old ≡ ACTOR_WORDS }
     ensures { words.new ≡ actor_words (actor_of words.old) times }
 {
-    let firings = times.firings;
-    let period = times.period;
-    let start = times.start;
-    words[3] = firings.firings();
-    words[4] = period.ticks();
-    words[5] = start.ticks();
+    words[3..ACTOR_WORDS].copy_from_slice(&[
+        times.firings.firings(),
+        times.period.ticks(),
+        times.start.ticks(),
+    ]);
 }
 
+// What is planned of all actors.
 fn put_actors(part: ModePlan, words: &mut [u64])
     requires { length words.old ≡ ACTOR_WORDS * ACTORS_LIMIT }
     ensures { words.new ≡ joined ACTORS_LIMIT (timed_actor words.old part) }
 {
+    // i is an actor's place, in what is planned of the mode and in the words.
     for i in 0..ACTORS {
         let a = ACTOR_WORDS * i;
         let e = a + ACTOR_WORDS;
-        let firings = part.firings[i];
-        let period = part.periods[i];
-        let start = part.starts[i];
         let times = Times {
-            firings,
-            period,
-            start,
+            firings: part.firings[i],
+            period: part.periods[i],
+            start: part.starts[i],
         };
         put_times(times, &mut words[a..e]);
     }
@@ -65,20 +64,19 @@ fn put_pair(size: Token, tokens: Token, words: &mut [u64])
     requires { length words.old ≡ 2 }
     ensures { words.new ≡ size.0 ∷ tokens.0 ∷ [] }
 {
-    words[0] = size.tokens();
-    words[1] = tokens.tokens();
+    words.copy_from_slice(&[size.tokens(), tokens.tokens()]);
 }
 
+// What is planned of all channels.
 fn put_carried(part: ModePlan, words: &mut [u64])
     requires { length words.old ≡ CARRIED_WORDS }
     ensures { words.new ≡ carried_words part }
 {
+    // k is a channel's place, in what is planned of the mode and in the words.
     for k in 0..CHANNELS {
         let a = 2 * k;
         let e = a + 2;
-        let size = part.sizes[k];
-        let tokens = part.tokens[k];
-        put_pair(size, tokens, &mut words[a..e]);
+        put_pair(part.sizes[k], part.tokens[k], &mut words[a..e]);
     }
 }
 
@@ -93,30 +91,23 @@ pub fn put_part(part: ModePlan, front: &mut [u64], carried: &mut [u64])
     put_carried(part, carried);
 }
 
-pub(crate) fn copy(from: &[u64], to: &mut [u64])
-    requires { length from.now ≡ length to.old }
-    ensures { to.new ≡ from.now }
-{
-    for k in 0..from.len() {
-        to[k] = from[k];
-    }
-}
-
+// Bytes, a word each.
 fn put_bytes(bytes: &[u8], words: &mut [u64])
     requires { length bytes.now ≡ length words.old }
     ensures { words.new ≡ bytes.now }
 {
-    for k in 0..bytes.len() {
-        words[k] = bytes[k] as u64;
+    for (k, word) in words.iter_mut().enumerate() {
+        *word = bytes[k] as u64;
     }
 }
 
+// The words of a channel: its bytes, and what is planned of it.
 fn put_channel(bytes: &[u8], carried: &[u64], words: &mut [u64])
     requires { (length bytes.now ≡ CHANNEL_BYTES) × (length carried.now ≡ 2) × (length words.old ≡ CHANNEL_WORDS) }
     ensures { words.new ≡ bytes.now ++ carried.now }
 {
     put_bytes(bytes, &mut words[0..CHANNEL_BYTES]);
-    copy(carried, &mut words[CHANNEL_BYTES..CHANNEL_WORDS]);
+    words[CHANNEL_BYTES..CHANNEL_WORDS].copy_from_slice(carried);
 }
 
 // The first so many channels.
@@ -124,6 +115,7 @@ fn put_channels(count: usize, channels: &[u8], carried: &[u64], words: &mut [u64
     requires { (count ≤ CHANNELS_LIMIT) × (length channels.now ≡ CHANNELS_BYTES) × (length carried.now ≡ CARRIED_WORDS) × (length words.old ≡ CHANNEL_WORDS * count) }
     ensures { words.new ≡ joined count (channel_laid channels.now carried.now) }
 {
+    // k is a channel's place, in the bytes, in what is planned and in the words.
     for k in 0..count {
         let a = CHANNEL_BYTES * k;
         let b = a + CHANNEL_BYTES;
@@ -142,7 +134,7 @@ pub fn put_mode(front: &[u64], channels: &[u8], carried: &[u64], words: &mut [u6
 {
     let head = head_of(front);
     let end = FRONT_WORDS + CHANNEL_WORDS * head.count;
-    copy(front, &mut words[0..FRONT_WORDS]);
+    words[0..FRONT_WORDS].copy_from_slice(front);
     put_channels(head.count, channels, carried, &mut words[FRONT_WORDS..end]);
     clear(&mut words[end..MODE_WORDS]);
 }
@@ -152,10 +144,10 @@ pub fn put_change(timing: Timing, words: &mut [u64])
     requires { length words.old ≡ CHANGE_WORDS }
     ensures { words.new ≡ change_words timing }
 {
-    let overlap = timing.overlap;
-    let offset = timing.offset;
-    let worst = timing.worst;
-    words[0] = overlap.ticks();
-    words[1] = offset.ticks();
-    words[2] = worst.ticks();
+    let change = [
+        timing.overlap.ticks(),
+        timing.offset.ticks(),
+        timing.worst.ticks(),
+    ];
+    words.copy_from_slice(&change);
 }

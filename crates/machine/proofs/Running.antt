@@ -65,7 +65,7 @@ mode_runs m proper p w =
     = λ i a. ap (λ (l : List Tick). get_or l i (tick 0)) w.starts ∙ at_actor m _ (tick 0) i a in
     let from : (k : ℕ) → k < m.count → Active m (channel_at m k).from = λ k h. ((proper.channel k h).from, (proper.channel k h).from_active) in
     let to : (k : ℕ) → k < m.count → Active m (channel_at m k).to = λ k h. ((proper.channel k h).to, (proper.channel k h).to_active) in
-    let paced = (ready m (judgement_of ds p) proper judged refl).paced in
+    let paced = (ready m (judgement_of ds p) proper judged).paced in
     record {
       ready = mode_ready m proper p w;
       small = mode_small m p proper w;

@@ -10,4 +10,4 @@ start_settled : Settles 1 start_kinds.ps start_kinds.r start.Post
 start_settled κs a x y s t p q = begins_unique p q
 
 request_settled : Settles 1 request_kinds.ps request_kinds.r request.Post
-request_settled κs a x y s t p q = answers_unique p q
+request_settled κs a x y s t p q = let (e, f) = answers_unique p q in λ i. record { reply = e i; machine = f i }

@@ -23,7 +23,7 @@ use Rattle.numbers.proofs.Laid.{part_is}
 use Rattle.numbers.specs.Joined.{part}
 use Rattle.planner.specs.Plans.{Stored, Leaves}
 use Rattle.planner.proofs.Leaving.{stored_leaves, leaves_proper, leaves_long}
-use Rattle.machine.specs.Steps.{pace_in}
+use Rattle.machine.specs.Steps.{pace_at}
 
 sink_word : (m : Mode) (p : ModePlan) → get_or (mode_words m p) 4 0 ≡ p.sink
 unfolding mode_words
@@ -41,7 +41,7 @@ module _ {t : Table} {w : Plan} {words : List ℕ} (l : Leaves t w words) where
     sink_there : get_or (take (MODE_WORDS * k + MODE_WORDS - MODE_WORDS * k) (drop (MODE_WORDS * k) words)) 4 0 < ACTORS
     sink_there = rw (stand, sink_word (mode_at t k) (part_at w k)) sink_small
 
-    pub pace_told : pace_of (take (MODE_WORDS * k + MODE_WORDS - MODE_WORDS * k) (drop (MODE_WORDS * k) words)) ≡ pace_in t w k
+    pub pace_told : pace_of (take (MODE_WORDS * k + MODE_WORDS - MODE_WORDS * k) (drop (MODE_WORDS * k) words)) ≡ pace_at t w k
     pace_told = ap pace_of stand ∙ pace_words (mode_at t k) (part_at w k) sink_small
 
     -- the start-up of a mode ends where its sink starts

@@ -1,10 +1,11 @@
 -- What a machine answers, for every buffer, every machine, every mode number and every clock.
-use Rattle.std.specs.Prelude.{◌≡◌, List, [], ◌∷◌, ℕ, suc, T}
+use Rattle.std.specs.Prelude.{◌≡◌, Some, None, Result, Ok, Err, List, [], ◌∷◌, ℕ, T}
 use Rattle.numbers.specs.Extreme.{Least}
 use Rattle.units.specs.declared.Tick.{Tick}
 use Rattle.units.specs.Ticks.{tick}
-use Rattle.terms.specs.Refusal.{NO_MODE, NO_PLAN, refusal_at}
-use Rattle.terms.specs.declared.refusal.Place.TheVariants.{Nowhere}
+use Rattle.terms.specs.Refusal.{nowhere_for}
+use Rattle.terms.specs.declared.refusal.Reason.{Reason}
+use Rattle.terms.specs.declared.refusal.Reason.TheVariants.{NoMode, NoPlan}
 use Rattle.terms.specs.declared.refusal.Refusal.{Refusal}
 use Rattle.tables.specs.Shape.{Table}
 use Rattle.planning.specs.Shape.{Plan}
@@ -13,14 +14,6 @@ use Rattle.run.specs.Machine as Run
 use Rattle.machine.specs.Plan.{is_listed, plan_of}
 use Rattle.planner.specs.Plans.{Stored, Leaves}
 use Rattle.machine.specs.declared.Machine.{Machine}
-use Rattle.machine.specs.declared.Beginning.{Beginning}
-use Rattle.machine.specs.declared.Beginning.TheVariants.{Begun, Refused as NotBegun}
-use Rattle.machine.specs.declared.Reply.TheVariants.{Accepted, Refused}
-use Rattle.machine.specs.declared.Answer.{Answer}
-
--- refusals of a start or a request name no place
-abbrev pub refusal_of : ℕ → Refusal
-refusal_of n = refusal_at n Nowhere
 
 -- a machine and a request as the run sees them, and back
 abbrev pub seen : Machine → Run.Machine
@@ -39,32 +32,30 @@ pub record Meant (t : Table) (mode k : ℕ) : Type 0 where
 
 -- The answer to a start: 15 where no accepted table leaves the words, then 11 where the mode is not in the plan, and otherwise a machine at tick 0 whose
 -- first change counts as ended at the end of the mode's start-up.
-pub data Begins (words : List ℕ) (mode : ℕ) : Beginning → Type 0 where
-  not_stored : (Stored words → ⊥) → Begins words mode (NotBegun (refusal_of NO_PLAN))
-  not_listed : {t : Table} {w : Plan} {k : ℕ} → Leaves t w words → Meant t mode k → (T (is_listed t k) → ⊥) → Begins words mode (NotBegun (refusal_of NO_MODE))
+pub data Begins (words : List ℕ) (mode : ℕ) : Result Machine Refusal → Type 0 where
+  not_stored : (Stored words → ⊥) → Begins words mode (Err (nowhere_for NoPlan))
+  not_listed : {t : Table} {w : Plan} {k : ℕ} → Leaves t w words → Meant t mode k → (T (is_listed t k) → ⊥) → Begins words mode (Err (nowhere_for NoMode))
   begun : {t : Table} {w : Plan} {k : ℕ} → Leaves t w words → Meant t mode k → T (is_listed t k)
-      → Begins words mode (Begun (machine (Run.begin (plan_of t w) k).now))
+      → Begins words mode (Ok (machine (Run.begin (plan_of t w) k).now))
 
--- the answer that refuses, and leaves the machine as it stood
-abbrev pub refusing : Machine → ℕ → Answer
-refusing m n = record { reply = Refused (refusal_of n); machine = m }
+-- the delay of a request that a machine accepts, and the machine after the change
+abbrev pub delay_of : RunPlan → Machine → ℕ → Tick → Tick
+delay_of p m mode clock = tick (Run.delay p (seen m) (asking mode clock))
 
--- the answer that accepts: the delay, and the machine after the change
-abbrev pub accepting : RunPlan → Machine → ℕ → Tick → Answer
-accepting p m mode clock =
-    record { reply = Accepted (tick (Run.delay p (seen m) (asking mode clock))); machine = machine (Run.changed p (seen m) (asking mode clock)) }
+abbrev pub changed_of : RunPlan → Machine → ℕ → Tick → Machine
+changed_of p m mode clock = machine (Run.changed p (seen m) (asking mode clock))
 
--- The answer to a request: 15 where no accepted table leaves the words, then the first of 16 and 11 to 14 that applies; and otherwise the delay, with the machine in the
--- new mode, which starts at F + d.
-pub data Answers (words : List ℕ) (m : Machine) (mode : ℕ) (clock : Tick) : Answer → Type 0 where
-  not_stored : (Stored words → ⊥) → Answers words m mode clock (refusing m NO_PLAN)
-  refused : {t : Table} {w : Plan} {n : ℕ} → Leaves t w words → Run.refusal (plan_of t w) (seen m) (asking mode clock) ≡ suc n
-      → Answers words m mode clock (refusing m (suc n))
-  accepted : {t : Table} {w : Plan} → Leaves t w words → Run.refusal (plan_of t w) (seen m) (asking mode clock) ≡ 0
-      → Answers words m mode clock (accepting (plan_of t w) m mode clock)
+-- The answer to a request, and the machine after it: 15 where no accepted table leaves the words, then the first of 16 and 11 to 14 that applies, each with the
+-- machine as it stood; and otherwise the delay, with the machine in the new mode, which starts at F + d.
+pub data Answers (words : List ℕ) (m : Machine) (mode : ℕ) (clock : Tick) : Result Tick Refusal → Machine → Type 0 where
+  not_stored : (Stored words → ⊥) → Answers words m mode clock (Err (nowhere_for NoPlan)) m
+  refused : {t : Table} {w : Plan} {r : Reason} → Leaves t w words → Run.refusal (plan_of t w) (seen m) (asking mode clock) ≡ Some r
+      → Answers words m mode clock (Err (nowhere_for r)) m
+  accepted : {t : Table} {w : Plan} → Leaves t w words → Run.refusal (plan_of t w) (seen m) (asking mode clock) ≡ None
+      → Answers words m mode clock (Ok (delay_of (plan_of t w) m mode clock)) (changed_of (plan_of t w) m mode clock)
 
--- Requests answered one after the other, each answer's machine handed to the next: from machine m they lead to the last one.
+-- Requests answered one after the other, by the machine that the answer before leaves: from machine m they lead to the last one.
 pub data Follows (words : List ℕ) : Machine → List Run.Request → Machine → Type 0 where
   none : {m : Machine} → Follows words m [] m
-  first : {m n : Machine} {r : Run.Request} {rs : List Run.Request} {a : Answer} → Answers words m r.mode (tick r.tick) a
-      → Follows words a.machine rs n → Follows words m (r ∷ rs) n
+  first : {m k n : Machine} {r : Run.Request} {rs : List Run.Request} {a : Result Tick Refusal} → Answers words m r.mode (tick r.tick) a k
+      → Follows words k rs n → Follows words m (r ∷ rs) n

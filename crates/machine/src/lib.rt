@@ -4,16 +4,15 @@
 mod modes;
 
 ghost use Rattle.std.specs.Prelude.{◌≡◌};
-ghost use Rattle.machine.specs.Answers.{refusal_of, refusing, Begins, Answers};
-ghost use Rattle.machine.specs.Steps.{Near, changed_of};
+ghost use Rattle.machine.specs.Answers.{Begins, Answers};
+ghost use Rattle.machine.specs.Steps.{Near, Leads, answer_by};
 
-use modes::{listed, lowest};
+use layout::load::Pace;
+use modes::{meant, offset, pace, startup};
 use planner::is_plan;
-use terms::refusal::{
-    NO_MACHINE, NO_MODE, NO_PLAN, PAST_CLOCK, Place, Refusal, SAME_MODE, UNENDED,
-};
-use units::Tick;
+use terms::refusal::{Reason, Refusal};
 use units::limits::CLOCK_LIMIT;
+use units::{Count, Tick};
 
 // A mode, by its number, the tick at which it started, and the tick at which its change ends.
 #[derive(Clone, Copy)]
@@ -23,78 +22,75 @@ pub struct Machine {
     pub ended: Tick,
 }
 
-#[derive(Drop)]
-pub enum Beginning {
-    Begun(Machine),
-    Refused(Refusal),
-}
-
-// An accepted request is told its delay.
-#[derive(Drop)]
-pub enum Reply {
-    Accepted(Tick),
-    Refused(Refusal),
-}
-
-// The answer to a request, and the machine after it.
-#[derive(Drop)]
+// The answer to a request, its delay or its refusal, and the machine after it.
+#[derive(Clone, Copy)]
 pub struct Answer {
-    pub reply: Reply,
+    pub reply: Result<Tick, Refusal>,
     pub machine: Machine,
 }
 
-// The ticks of a change: the old mode's iteration, the ends of both start-ups, the start of the new sink, and the offset.
+// What a change goes by: the paces of the mode that is left and of the one that is entered, and the offset between them.
 #[derive(Drop)]
 pub(crate) struct Course {
-    pub iteration: Tick,
-    pub old: Tick,
-    pub new: Tick,
-    pub sink: Tick,
+    pub old: Pace,
+    pub new: Pace,
     pub offset: Tick,
 }
 
-fn refusal(number: u64) -> Refusal
-    ensures { result ≡ refusal_of number }
-{
-    let place = Place::Nowhere;
-    Refusal { number, place }
-}
-
 // Begins a machine, at tick 0 in the mode with this number; 0 stands for the lowest listed mode.
-pub fn start(words: &[u64], mode: u64) -> Beginning
+pub fn start(words: &[u64], mode: u64) -> Result<Machine, Refusal>
     ensures { Begins words.now mode result }
 {
     if !is_plan(words) {
-        return Beginning::Refused(refusal(NO_PLAN));
+        return Err(Refusal::nowhere(Reason::NoPlan));
     }
-    let chosen = if mode == 0 { lowest(words) } else { mode };
-    if !listed(words, chosen) {
-        return Beginning::Refused(refusal(NO_MODE));
-    }
-    let ended = modes::startup_of(words, chosen);
-    Beginning::Begun(Machine {
-        mode: chosen,
+    let mode = meant(words, mode);
+    let Some(pace) = pace(words, mode) else {
+        return Err(Refusal::nowhere(Reason::NoMode));
+    };
+    Ok(Machine {
+        mode,
         started: Tick::NONE,
-        ended,
+        ended: startup(pace),
     })
 }
 
 impl Machine {
-    fn refuse(self, number: u64) -> Answer
-        ensures { result ≡ refusing self number }
+    // The course of the change that a request asks for, or why it is refused.
+    fn course(self, words: &[u64], mode: u64, clock: Tick) -> Result<Course, Reason>
+        ensures { Leads words.now self mode clock result }
     {
-        Answer {
-            reply: Reply::Refused(refusal(number)),
-            machine: self,
+        if !is_plan(words) {
+            return Err(Reason::NoPlan);
         }
+        let Some(old) = pace(words, self.mode) else {
+            return Err(Reason::NoMachine);
+        };
+        if !self.started.at_most(self.ended) {
+            return Err(Reason::NoMachine);
+        }
+        let Some(new) = pace(words, mode) else {
+            return Err(Reason::NoMode);
+        };
+        if mode == self.mode {
+            return Err(Reason::SameMode);
+        }
+        if !clock.at_most(CLOCK_LIMIT) {
+            return Err(Reason::PastClock);
+        }
+        if !self.ended.at_most(clock) {
+            return Err(Reason::Unended);
+        }
+        let offset = offset(words, self.mode, mode);
+        Ok(Course { old, new, offset })
     }
 
-    // The machine after a change into a mode that was asked for at a tick.
+    // The change into a mode that was asked for at a tick.
     fn change(self, course: Course, mode: u64, clock: Tick) -> Answer
         requires { Near self course clock }
-        ensures { result ≡ changed_of self course mode clock }
+        ensures { result ≡ answer_by self course mode clock }
     {
-        let iteration = course.iteration;
+        let iteration = course.old.iteration;
         let since = self.started;
         let times = clock
             .minus(since)
@@ -103,45 +99,28 @@ impl Machine {
             .per(iteration);
         let left = since.plus(iteration.times(times));
         let started = left.plus(course.offset);
-        let set = started.plus(course.sink);
-        let settled = started.plus(course.new);
+        let set = started.plus(course.new.sink_start);
+        let settled = started.plus(startup(course.new));
         Answer {
-            reply: Reply::Accepted(set.minus(clock)),
+            reply: Ok(set.minus(clock)),
             machine: Machine {
                 mode,
                 started,
-                ended: left.plus(course.old).greater(settled),
+                ended: left.plus(startup(course.old)).greater(settled),
             },
         }
     }
 
     // Answers a request for the mode with this number at a tick; a refused one leaves the machine as it stood.
     pub fn request(self, words: &[u64], mode: u64, clock: Tick) -> Answer
-        ensures { Answers words.now self mode clock result }
+        ensures { Answers words.now self mode clock result.reply result.machine }
     {
-        if !is_plan(words) {
-            return self.refuse(NO_PLAN);
+        match self.course(words, mode, clock) {
+            Ok(course) => self.change(course, mode, clock),
+            Err(reason) => Answer {
+                reply: Err(Refusal::nowhere(reason)),
+                machine: self,
+            },
         }
-        if !listed(words, self.mode) {
-            return self.refuse(NO_MACHINE);
-        }
-        let started = self.started;
-        let ended = self.ended;
-        if !started.at_most(ended) {
-            return self.refuse(NO_MACHINE);
-        }
-        if !listed(words, mode) {
-            return self.refuse(NO_MODE);
-        }
-        if mode == self.mode {
-            return self.refuse(SAME_MODE);
-        }
-        if !clock.at_most(CLOCK_LIMIT) {
-            return self.refuse(PAST_CLOCK);
-        }
-        if !ended.at_most(clock) {
-            return self.refuse(UNENDED);
-        }
-        self.change(modes::course(words, self.mode, mode), mode, clock)
     }
 }

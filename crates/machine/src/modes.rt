@@ -1,90 +1,72 @@
-// The modes of a plan, by their numbers, as its words hold them.
-ghost use Rattle.std.specs.Prelude.{◌≡◌, ◌≤◌, ◌<◌};
+// The modes of a plan, by their numbers, as its words hold them. The words stay a slice: a struct around them would hold the one clause that each asks.
+ghost use Rattle.std.specs.Prelude.{◌≡◌, ◌≤◌, ◌<◌, IsSomeAnd};
 ghost use Rattle.units.specs.Limits.{MODES};
 ghost use Rattle.planning.specs.Plan.{change_at};
+ghost use Rattle.terms.specs.Place.{place_of};
 ghost use Rattle.planner.specs.Plans.{Stored};
-ghost use Rattle.machine.specs.Plan.{part_of, is_listed};
-ghost use Rattle.machine.specs.Steps.{Tells, pace_in, lowest_of, course_of};
+ghost use Rattle.machine.specs.Answers.{Meant};
+ghost use Rattle.machine.specs.Steps.{Tells, pace_at, pace_of};
 
-use crate::Course;
 use layout::load::{Pace, offset_of, pace_of};
 use layout::{MODE_WORDS, MODES_END, WORDS};
-use terms::place::{number_of, place_of};
+use terms::place::place_of;
 use units::Tick;
 use units::limits::MODES;
 
-// The pace of the mode at a place.
-fn pace_at(words: &[u64], place: usize) -> Pace
+// The pace of the mode at a place; none where no mode is listed there.
+fn pace_at(words: &[u64], place: usize) -> Option<Pace>
     requires { Stored words.now × (place < MODES) }
-    ensures { Tells words.now (λ t w. result ≡ pace_in t w place) }
+    ensures { Tells words.now (λ t w. result ≡ pace_at t w place) }
 {
     let a = MODE_WORDS * place;
     let e = a + MODE_WORDS;
     pace_of(&words[a..e])
 }
 
-// Whether the mode is in the plan.
-pub(crate) fn listed(words: &[u64], mode: u64) -> bool
+// The pace of the mode with a number; none where it is not in the plan.
+pub(crate) fn pace(words: &[u64], mode: u64) -> Option<Pace>
     requires { Stored words.now }
-    ensures { Tells words.now (λ t w. result ≡ is_listed t mode) }
+    ensures { Tells words.now (λ t w. result ≡ pace_of t w mode) }
 {
-    if mode == 0 {
-        return false;
+    if !(1..=MODES as u64).contains(&mode) {
+        return None;
     }
-    if mode > MODES as u64 {
-        return false;
-    }
-    let pace = pace_at(words, place_of(mode));
-    pace.listed
+    pace_at(words, place_of(mode))
 }
 
-// The lowest mode of the plan.
-pub(crate) fn lowest(words: &[u64]) -> u64
+// The lowest mode of the plan, which has one.
+fn lowest(words: &[u64]) -> Option<u64>
     requires { Stored words.now }
-    ensures { Tells words.now (λ t w. result ≡ lowest_of t) }
+    ensures { Tells words.now (λ t w. IsSomeAnd result (Meant t 0)) }
 {
-    for k in 0..MODES {
-        let pace = pace_at(words, k);
-        if pace.listed {
-            return number_of(k);
-        }
-    }
-    0
+    (1..MODES as u64 + 1).find(|&mode| pace(words, mode).is_some())
 }
 
-// The tick at which a mode's start-up ends: the one set for the first firing of its sink.
-pub(crate) fn startup_of(words: &[u64], mode: u64) -> Tick
-    requires { Stored words.now × (1 ≤ mode) × (mode ≤ MODES) }
-    ensures { Tells words.now (λ t w. result ≡ (part_of w mode).startup) }
+// The mode that is meant by a number: 0 stands for the lowest (the paper's form).
+pub(crate) fn meant(words: &[u64], mode: u64) -> u64
+    requires { Stored words.now }
+    ensures { Tells words.now (λ t w. Meant t mode result) }
 {
-    let pace = pace_at(words, place_of(mode));
+    if mode != 0 {
+        return mode;
+    }
+    lowest(words).unwrap()
+}
+
+// The tick at which the start-up of a mode with a pace ends: the one set for the first firing of its sink.
+pub(crate) fn startup(pace: Pace) -> Tick
+    ensures { result ≡ pace.sink_start }
+{
     pace.sink_start
 }
 
-// The offset of the change from the mode at one place to the mode at another.
-fn offset_at(words: &[u64], from: usize, to: usize) -> Tick
-    requires { Stored words.now × (from < MODES) × (to < MODES) }
-    ensures { Tells words.now (λ t w. result ≡ (change_at w from to).offset) }
-{
-    offset_of(&words[MODES_END..WORDS], MODES * from + to)
-}
-
-// The ticks of the change from one mode to another.
-pub(crate) fn course(words: &[u64], old: u64, new: u64) -> Course
+// The offset of the change from one mode to another.
+pub(crate) fn offset(words: &[u64], old: u64, new: u64) -> Tick
     requires { Stored words.now × (1 ≤ old) × (old ≤ MODES) × (1 ≤ new) × (new ≤ MODES) }
-    ensures { Tells words.now (λ t w. result ≡ course_of w old new) }
+    ensures { Tells words.now (λ t w. result ≡ (change_at w (place_of old) (place_of new)).offset) }
 {
-    let from = place_of(old);
-    let to = place_of(new);
-    let left = pace_at(words, from);
-    let entered = pace_at(words, to);
-    let iteration = left.iteration;
-    let sink = entered.sink_start;
-    Course {
-        iteration,
-        old: startup_of(words, old),
-        new: startup_of(words, new),
-        sink,
-        offset: offset_at(words, from, to),
-    }
+    offset_of(
+        &words[MODES_END..WORDS],
+        MODES * place_of(old) + place_of(new),
+    )
 }

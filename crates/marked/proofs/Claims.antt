@@ -1,9 +1,10 @@
 -- A claim holds where it is what is reckoned of the table. Assumes nothing.
 use mathlib.Core.Path.{◌≡◌, refl, ap, ap₂, subst, subst₂, ◌∙◌}
-use mathlib.Core.Bool.{Bool, ◌&&◌}
+use mathlib.Core.Bool.{Bool, true, ◌&&◌}
 use mathlib.Core.List.{List, [], ◌∷◌, ◌++◌, map}
 use mathlib.Core.Logic.Iff
 use Prim.Native.Nat.{ℕ, zero, suc, ◌-◌}
+use Rattle.std.specs.Prelude.{Result, Ok, Err}
 use lib.Dec.{T, leb, ltb, ltb→lt, leb→le}
 use lib.ListN.{length, get_or, replicate}
 use Rattle.numbers.specs.Decides.{decides_and}
@@ -14,13 +15,14 @@ use Rattle.units.specs.Limits.{MODES, ACTORS, MOST_BYTES}
 use Rattle.units.specs.declared.Tick.{Tick}
 use Rattle.units.specs.Ticks.{tick}
 use Rattle.terms.specs.Refusal.{line_of, printed_of}
+use Rattle.terms.specs.declared.refusal.Refusal.{Refusal}
 use Rattle.terms.specs.declared.refusal.Printed.{Printed as Five}
 use Rattle.tables.specs.Shape.{Mode, Table, mode_at}
 use Rattle.tables.specs.Proper.{ProperMode, ProperTable}
 use Rattle.reader.specs.Told.{rows, table_of}
 use Rattle.reader.proofs.Again.{reads_proper}
 use Rattle.reader.proofs.Computed.{rows_in, readsb, reads_rows}
-use Rattle.graph.specs.declared.Verdict.TheVariants.{Sound}
+use Rattle.graph.specs.declared.Fault.{Fault}
 use Rattle.graph.specs.declared.Judgement.{Judgement}
 use Rattle.graph.specs.Judged.{Judged}
 use Rattle.graph.specs.Judge.{judge_of}
@@ -31,22 +33,20 @@ use Rattle.schedule.specs.Reached.{start_at}
 use Rattle.schedule.specs.Model.{starts_of}
 use Rattle.schedule.proofs.Laws.{starts_exist}
 use Rattle.change.specs.Change.{load_at}
+use Rattle.planning.specs.declared.ModePlan.{ModePlan}
 use Rattle.planning.specs.Shape.{Plan}
-use Rattle.planning.specs.declared.Answer.{Answer}
-use Rattle.planning.specs.declared.Answer.TheVariants.{Planned as IsPlanned, Refused as IsRefused}
 use Rattle.planning.specs.Plan.{Planned}
 use Rattle.planning.proofs.Unique.{plan_unique}
 use Rattle.run.specs.Machine as Run
 use Rattle.machine.specs.Plan.{is_listed, plan_of}
 use Rattle.printer.specs.Printed.{plan_text, Shows}
-use Rattle.planner.specs.declared.Answer.TheVariants.{Accepted}
 use Rattle.planner.specs.Plans.{Reads, accepted, not_planned, Leaves, no_room, not_stored, printed}
 use Rattle.planner.proofs.Leaving.{reads_one, leaves_stored, leaves_table, leaves_plan}
 use Rattle.planner.proofs.Answering.{plans_unique}
 use Rattle.machine.specs.Answers.{machine}
 use Rattle.marked.specs.Lines.{Claim, prints, refuses, starts, loads, answers, Line, text_of, WhenPlanned, WhenPrinted, WhenBegun, times_at, Claimed, Holds}
 use Rattle.planning.proofs.Reckoned.{answer_of}
-use Rattle.marked.proofs.Reckoned.{answers_of, plan_for, plan_planned, first_refused}
+use Rattle.marked.proofs.Reckoned.{passes_of, plan_for, plan_planned, first_refused}
 use Rattle.marked.proofs.Told.{Tells, begun_answers}
 
 -- the text is read: it passes the test by computing, and is neither empty nor too long
@@ -59,16 +59,17 @@ table_in text = table_of (rows_in text)
 
 -- the text is read, and no mode of its table is refused
 abbrev pub Passes : List ℕ → Type 0
-Passes text = IsRead text × (answers_of (table_in text) ≡ replicate MODES IsPlanned)
+Passes text = IsRead text × (passes_of (table_in text) ≡ replicate MODES true)
 
 -- an answer that refuses, with these five numbers
-abbrev Refuses : Answer → Five → Type 0
-Refuses IsPlanned l = ⊥
-Refuses (IsRefused x) l = printed_of x ≡ l
+abbrev Refuses : Result ModePlan Refusal → Five → Type 0
+Refuses (Ok p) l = ⊥
+Refuses (Err x) l = printed_of x ≡ l
 
--- the starts that are reckoned of a mode
-abbrev starts_in : Mode → List Tick
-starts_in m = starts_of m (judge_of m).periods (judge_of m).depths
+-- a judgement that does not refuse, with these starts, and 0 behind them
+abbrev Begins : Mode → Result Judgement Fault → List ℕ → Type 0
+Begins m (Err f) ss = ⊥
+Begins m (Ok j) ss = starts_of m j.periods j.depths ≡ map tick ss ++ replicate (ACTORS - length ss) (tick 0)
 
 -- what is to be reckoned for a claim
 abbrev pub Right : List ℕ → Claim → Type 0
@@ -77,8 +78,7 @@ Right text (refuses n row m a q) = IsRead text × Refuses (answer_of (mode_at (t
 Right text (starts n ss) =
     IsRead text
     × T (ltb (n - 1) MODES)
-    × ((judge_of (mode_at (table_in text) (n - 1))).verdict ≡ Sound)
-    × (starts_in (mode_at (table_in text) (n - 1)) ≡ map tick ss ++ replicate (ACTORS - length ss) (tick 0))
+    × Begins (mode_at (table_in text) (n - 1)) (judge_of (mode_at (table_in text) (n - 1))) ss
 Right text (loads o n d k q over under) =
     Passes text
     × Same (load_at (times_at (table_in text) (plan_for (table_in text)) o) (times_at (table_in text) (plan_for (table_in text)) n) d k q)
@@ -113,7 +113,7 @@ module _ (text : List ℕ) where
 
 -- whatever is answered to a text with a plan, it is accepted and leaves that plan
 module _ {text : List ℕ} {t : Table} {w : Plan} (r : Reads text t) (p : Planned t w) where
-  planning : (P : List ℕ → Type 0) → ((words : List ℕ) → Leaves t w words → P words) → WhenPlanned text (λ a before after. (a ≡ Accepted) × P after)
+  planning : (P : List ℕ → Type 0) → ((words : List ℕ) → Leaves t w words → P words) → WhenPlanned text (λ a before after. (a ≡ Ok tt) × P after)
   planning P f before after a l q =
       let (e, k) = plans_unique q (accepted l r p) in (e, f after (record { text = text; reads = r; planned = p; left = k }))
 
@@ -129,29 +129,28 @@ printed_is l shown e before after x h (printed {n = n} k q s) =
     (n, refl, subst (λ (y : List ℕ). Shows y after n) (ap₂ plan_text (leaves_table q l) (leaves_plan q l) ∙ e) s)
 
 -- whatever is judged of a mode has the starts that are reckoned
-judged_starts : (m : Mode) (ss : List ℕ) (z : ℕ) → ProperMode m → (judge_of m).verdict ≡ Sound → starts_in m ≡ map tick ss ++ replicate z (tick 0)
-    → (j : Judgement) → Judged m j → (j.verdict ≡ Sound) × Starts m j.periods (λ i. tick (get_or ss i 0))
-judged_starts m ss z proper e f j x =
-    subst (λ (j : Judgement). (j.verdict ≡ Sound) × Starts m j.periods (λ i. tick (get_or ss i 0))) (judged_unique m (judge_judged m proper) x)
-    (e, subst (Starts m (judge_of m).periods) (λ k i. same i k) (starts_exist m (judge_of m) proper (judge_judged m proper) e))
+judged_starts : (m : Mode) (ss : List ℕ) → ProperMode m → (a : Result Judgement Fault) → Judged m a → Begins m a ss → (r : Result Judgement Fault) → Judged m r
+    → (j : Judgement) × (r ≡ Ok j) × Starts m j.periods (λ i. tick (get_or ss i 0))
+judged_starts m ss proper (Err f) d e r x = absurd e
+judged_starts m ss proper (Ok j) d e r x = (j, judged_unique m x d, subst (Starts m j.periods) (λ k i. same i k) (starts_exist m j proper d))
   where
-    same : (i : ℕ) → start_at (starts_in m) i ≡ tick (get_or ss i 0)
-    same i = ap (λ (l : List Tick). get_or l i (tick 0)) f ∙ starts_at ss z i
+    same : (i : ℕ) → start_at (starts_of m j.periods j.depths) i ≡ tick (get_or ss i 0)
+    same i = ap (λ (l : List Tick). get_or l i (tick 0)) e ∙ starts_at ss (ACTORS - length ss) i
 
 -- whatever is answered to a text whose mode 1 is refused, it is that refusal
-refused_is : (text : List ℕ) (n row m a q : ℕ) → IsRead text → (x : Answer) → answer_of (mode_at (table_in text) 0) 1 ≡ x → Refuses x (line_of n row m a q)
+refused_is : (text : List ℕ) (n row m a q : ℕ) → IsRead text → (x : Result ModePlan Refusal) → answer_of (mode_at (table_in text) 0) 1 ≡ x → Refuses x (line_of n row m a q)
     → Claimed text (refuses n row m a q)
-refused_is text n row m a q r IsPlanned f e = absurd e
-refused_is text n row m a q r (IsRefused x) f e = λ before after y l s.
+refused_is text n row m a q r (Ok p) f e = absurd e
+refused_is text n row m a q r (Err x) f e = λ before after y l s.
     let (g, k) = plans_unique s (not_planned l (reads text r) (first_refused (table_in text) (proper text r) x f)) in ((x, g, e), k)
 
 claimed : (text : List ℕ) (c : Claim) → Right text c → Claimed text c
 claimed text (prints ls) (g, e) = planning (reads text g.0) (planned text g) (λ words. WhenPrinted words (text_of ls)) (λ words l. printed_is l (text_of ls) e)
 claimed text (refuses n row m a q) (r, e) = refused_is text n row m a q r (answer_of (mode_at (table_in text) 0) 1) refl e
-claimed text (starts n ss) (r, b, e, f) = λ u j s x.
-    subst (λ (y : Table). (j : Judgement) → Judged (mode_at y (n - 1)) j → (j.verdict ≡ Sound) × Starts (mode_at y (n - 1)) j.periods (λ i. tick (get_or ss i 0)))
+claimed text (starts n ss) (r, b, e) = λ u v s x.
+    subst (λ (y : Table). (v : Result Judgement Fault) → Judged (mode_at y (n - 1)) v → (j : Judgement) × (v ≡ Ok j) × Starts (mode_at y (n - 1)) j.periods (λ i. tick (get_or ss i 0)))
     (reads_one (reads text r) s)
-    (judged_starts (mode_at (table_in text) (n - 1)) ss (ACTORS - length ss) ((proper text r).mode (n - 1) (ltb→lt _ _ b)) e f) j x
+    (judged_starts (mode_at (table_in text) (n - 1)) ss ((proper text r).mode (n - 1) (ltb→lt _ _ b)) _ (judge_judged _ ((proper text r).mode (n - 1) (ltb→lt _ _ b))) e) v x
 claimed text (loads o n d k q over under) (g, e) =
     any_plan (reads text g.0) (planned text g) (λ t w. Same (load_at (times_at t w o) (times_at t w n) d k q) (record { over = over; under = under })) e
 claimed text (answers n qs) (g, h, e) =

@@ -26,7 +26,7 @@ use Rattle.schedule.specs.Model.{depth_from, starts_from, schedule_of}
 use Rattle.printer.specs.Texts.{texts}
 use Rattle.printer.specs.Printed.{as_five, line_text, plan_text}
 use Rattle.marked.specs.Lines.{text_of, eight, plan_eight, nine, plan_nine, longest, plan_longest}
-use Rattle.planning.proofs.Reckoned.{answer_of, part_for}
+use Rattle.planning.proofs.Reckoned.{answer_of}
 use Rattle.marked.proofs.Reckoned.{plan_for}
 use Rattle.marked.proofs.Claims.{table_in}
 
@@ -62,7 +62,7 @@ Written lines source sink channel = (source ++ sink) ++ channel ≡ text_of line
 reckoned : Reckoned eight (actor_line 1 1 16777216 0) (actor_line 2 16 1048576 16777216) (channel_line 32 16)
     × Reckoned nine (actor_line 1 1 17825792 0) (actor_line 2 17 1048576 17825792) (channel_line 34 17)
     × Reckoned longest (actor_line 1 8 134217728 0) (actor_line 2 1024 1048576 134217728) (channel_line 256 1024)
-unfolding bit sum tab lowest_or gcd_from most_of rows_in table_of padded preds_from round_from order_from chosen givers_from entries_from stays fed_of counts_from balancesb most_from common_from share_from timed_of balanced_of judge_of start_of size_of depth_from starts_from schedule_of answer_of part_for texts
+unfolding bit sum tab lowest_or gcd_from most_of rows_in table_of padded preds_from round_from order_from chosen givers_from entries_from stays fed_of counts_from balancesb most_from common_from share_from timed_of balanced_of judge_of start_of size_of depth_from starts_from schedule_of answer_of texts
 reckoned = (refl, refl, refl)
 
 written : Written plan_eight (actor_line 1 1 16777216 0) (actor_line 2 16 1048576 16777216) (channel_line 32 16)

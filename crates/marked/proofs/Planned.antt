@@ -29,7 +29,7 @@ use Rattle.planner.specs.Plans.{Reads}
 use Rattle.machine.specs.Plan.{plan_of}
 use Rattle.marked.specs.Lines.{one, two, text_of}
 use Rattle.marked.specs.Planned.{PrintedPlan, PrintedRun}
-use Rattle.planning.proofs.Reckoned.{answer_of, part_for}
+use Rattle.planning.proofs.Reckoned.{answer_of}
 use Rattle.marked.proofs.Reckoned.{plan_for}
 use Rattle.marked.proofs.Claims.{table_in, Passes, reads, planned, any_plan}
 
@@ -41,7 +41,7 @@ abbrev Agrees : Table → Plan → Type 0
 Agrees t w = PrintedPlan (plan_of t w) × PrintedRun (plan_of t w)
 
 reckoned : Passes text × Agrees (table_in text) (plan_for (table_in text))
-unfolding joined bit sum sum_of tab lowest_or gcd_from most_of rows_in readsb channels table_of padded preds_from round_from order_from chosen givers_from entries_from stays fed_of counts_from balancesb most_from common_from share_from timed_of balanced_of judge_of start_of size_of depth_from starts_from schedule_of answer_of part_for refusal run answer total tally begun done asks asked
+unfolding joined bit sum sum_of tab lowest_or gcd_from most_of rows_in readsb channels table_of padded preds_from round_from order_from chosen givers_from entries_from stays fed_of counts_from balancesb most_from common_from share_from timed_of balanced_of judge_of start_of size_of depth_from starts_from schedule_of answer_of refusal run answer total tally begun done asks asked
 reckoned = (
   (tt, refl),
   (

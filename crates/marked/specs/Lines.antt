@@ -1,14 +1,17 @@
 -- The marked lines of document 01, as they read with 2026-02: each is a table, with what is claimed of it. A claim speaks of whatever answer the promises
 -- of the planner and of the machine allow.
-use Rattle.std.specs.Prelude.{◌≡◌, List, [], ◌∷◌, ◌++◌, ℕ, ◌-◌, length, get_or}
+use Rattle.std.specs.Prelude.{◌≡◌, Result, Ok, Err, List, [], ◌∷◌, ◌++◌, ℕ, ◌-◌, length, get_or}
 use Prim.Native.String.{String}
 use Rattle.numbers.specs.Fraction.{Same}
+use Rattle.units.specs.declared.Tick.{Tick}
 use Rattle.units.specs.Ticks.{tick}
-use Rattle.terms.specs.Refusal.{line_of, printed_of}
+use Rattle.terms.specs.Refusal.{nowhere_for, line_of, printed_of}
 use Rattle.terms.specs.Text.{bytes}
+use Rattle.terms.specs.declared.refusal.Reason.{Reason}
+use Rattle.terms.specs.declared.refusal.Reason.TheVariants.{Unended}
 use Rattle.terms.specs.declared.refusal.Refusal.{Refusal}
 use Rattle.tables.specs.Shape.{Table, mode_at}
-use Rattle.graph.specs.declared.Verdict.TheVariants.{Sound}
+use Rattle.graph.specs.declared.Fault.{Fault}
 use Rattle.graph.specs.declared.Judgement.{Judgement}
 use Rattle.graph.specs.Judged.{Judged}
 use Rattle.schedule.specs.Starts.{Starts}
@@ -17,25 +20,19 @@ use Rattle.planning.specs.Shape.{Plan}
 use Rattle.planning.specs.Plan.{part_at, times_of, Planned}
 use Rattle.layout.specs.Words.{WORDS}
 use Rattle.printer.specs.Printed.{PRINTED, Shows}
-use Rattle.planner.specs.declared.Answer as Planner
-use Rattle.planner.specs.declared.Answer.TheVariants.{Accepted, Refused}
-use Rattle.planner.specs.declared.Printing.{Printing}
-use Rattle.planner.specs.declared.Printing.TheVariants.{Printed}
 use Rattle.planner.specs.Plans.{Reads, Plans, Prints}
 use Rattle.machine.specs.declared.Machine.{Machine}
-use Rattle.machine.specs.declared.Beginning.{Beginning}
-use Rattle.machine.specs.declared.Beginning.TheVariants.{Begun}
-use Rattle.machine.specs.declared.Reply.{Reply}
-use Rattle.machine.specs.declared.Reply.TheVariants.{Accepted as IsAccepted, Refused as IsRefused}
-use Rattle.machine.specs.declared.Answer.{Answer}
-use Rattle.machine.specs.Answers.{refusal_of, Begins, Answers}
+use Rattle.machine.specs.Answers.{Begins, Answers}
 
--- what a request is told: its delay, or the number of its refusal
+-- what a request is told: its delay, or why it is refused
+abbrev pub Reply : Type 0
+Reply = Result Tick Refusal
+
 abbrev pub delay : ℕ → Reply
-delay n = IsAccepted (tick n)
+delay n = Ok (tick n)
 
-abbrev pub refused : ℕ → Reply
-refused n = IsRefused (refusal_of n)
+abbrev pub refused : Reason → Reply
+refused r = Err (nowhere_for r)
 
 -- a request for a mode at a tick, and what it is told
 pub record Asked : Type 0 where
@@ -68,23 +65,23 @@ text_of [] = []
 text_of (s ∷ ss) = bytes s ++ (13 ∷ 10 ∷ text_of ss)
 
 -- P holds of every answer to a text, and of what its buffer of the one length holds before and after
-abbrev pub WhenPlanned : List ℕ → (Planner.Answer → List ℕ → List ℕ → Type 0) → Type 0
-WhenPlanned text P = (before after : List ℕ) (a : Planner.Answer) → length before ≡ WORDS → Plans text before a after → P a before after
+abbrev pub WhenPlanned : List ℕ → (Result (Unit {0}) Refusal → List ℕ → List ℕ → Type 0) → Type 0
+WhenPlanned text P = (before after : List ℕ) (a : Result (Unit {0}) Refusal) → length before ≡ WORDS → Plans text before a after → P a before after
 
 -- whatever is printed of these words, into a buffer of the one length, is this text
 abbrev pub WhenPrinted : List ℕ → List ℕ → Type 0
 WhenPrinted words text =
-    (before after : List ℕ) (r : Printing) → length before ≡ PRINTED → Prints words before r after → (n : ℕ) × (r ≡ Printed n) × Shows text after n
+    (before after : List ℕ) (r : Result ℕ Refusal) → length before ≡ PRINTED → Prints words before r after → (n : ℕ) × (r ≡ Ok n) × Shows text after n
 
 -- whatever this machine answers to these requests on these words, they are told what is claimed; the machine of each answer is asked the next
 unfoldable pub WhenAsked : List ℕ → Machine → List Asked → Type 0
 WhenAsked words m [] = Unit {0}
 WhenAsked words m (q ∷ qs) =
-    (a : Answer) → Answers words m q.mode (tick q.clock) a → (a.reply ≡ q.told) × WhenAsked words a.machine qs
+    (a : Reply) (n : Machine) → Answers words m q.mode (tick q.clock) a n → (a ≡ q.told) × WhenAsked words n qs
 
 -- whatever a start in this mode answers, it is a machine, and that machine is asked these requests
 abbrev pub WhenBegun : List ℕ → ℕ → List Asked → Type 0
-WhenBegun words mode asked = (b : Beginning) → Begins words mode b → (m : Machine) × (b ≡ Begun m) × WhenAsked words m asked
+WhenBegun words mode asked = (b : Result Machine Refusal) → Begins words mode b → (m : Machine) × (b ≡ Ok m) × WhenAsked words m asked
 
 -- mode n of a planned table as it runs
 abbrev pub times_at : Table → Plan → ℕ → ModeTimes
@@ -92,16 +89,16 @@ times_at t w n = times_of (mode_at t (n - 1)) (part_at w (n - 1))
 
 -- the claim holds of the table of this text
 abbrev pub Claimed : List ℕ → Claim → Type 0
-Claimed text (prints ls) = WhenPlanned text (λ a before after. (a ≡ Accepted) × WhenPrinted after (text_of ls))
+Claimed text (prints ls) = WhenPlanned text (λ a before after. (a ≡ Ok tt) × WhenPrinted after (text_of ls))
 Claimed text (refuses n r m i p) =
-    WhenPlanned text (λ a before after. ((x : Refusal) × (a ≡ Refused x) × (printed_of x ≡ line_of n r m i p)) × (after ≡ before))
+    WhenPlanned text (λ a before after. ((x : Refusal) × (a ≡ Err x) × (printed_of x ≡ line_of n r m i p)) × (after ≡ before))
 Claimed text (starts n ss) =
-    (t : Table) (j : Judgement) → Reads text t → Judged (mode_at t (n - 1)) j
-    → (j.verdict ≡ Sound) × Starts (mode_at t (n - 1)) j.periods (λ i. tick (get_or ss i 0))
+    (t : Table) (r : Result Judgement Fault) → Reads text t → Judged (mode_at t (n - 1)) r
+    → (j : Judgement) × (r ≡ Ok j) × Starts (mode_at t (n - 1)) j.periods (λ i. tick (get_or ss i 0))
 Claimed text (loads o n d k p over under) =
     (t : Table) (w : Plan) → Reads text t → Planned t w
     → Same (load_at (times_at t w o) (times_at t w n) d k p) (record { over = over; under = under })
-Claimed text (answers n asked) = WhenPlanned text (λ a before after. (a ≡ Accepted) × WhenBegun after n asked)
+Claimed text (answers n asked) = WhenPlanned text (λ a before after. (a ≡ Ok tt) × WhenBegun after n asked)
 
 -- what a marked line says
 abbrev pub Holds : Line → Type 0
@@ -226,9 +223,9 @@ lines =
     ∷ line "P10" ("actor,1,1,1,1,1" ∷ "actor,1,2,1,1,1" ∷ "channel,1,1,2,1,1" ∷ []) (refuses 9 0 1 0 1)
     ∷ line "P11" chain (refuses 10 0 1 2 0)
     ∷ line "P11, its starts" chain (starts 1 (0 ∷ 4 ∷ 2 ∷ []))
-    ∷ from_two "P12 at 19" (asked 1 19 (refused 14) ∷ [])
+    ∷ from_two "P12 at 19" (asked 1 19 (refused Unended) ∷ [])
     ∷ from_two "P12 at 20" (asked 1 20 (delay 26) ∷ [])
     ∷ from_two "P12 at 24" (asked 1 24 (delay 22) ∷ [])
     ∷ from_two "P12 at 25" (asked 1 25 (delay 29) ∷ [])
-    ∷ from_two "from mode 2" (asked 1 21 (delay 25) ∷ asked 2 45 (refused 14) ∷ asked 2 46 (delay 22) ∷ [])
+    ∷ from_two "from mode 2" (asked 1 21 (delay 25) ∷ asked 2 45 (refused Unended) ∷ asked 2 46 (delay 22) ∷ [])
     ∷ []

@@ -7,8 +7,6 @@ use Rattle.numbers.specs.Multiples.{lcm_within_unique}
 use Rattle.numbers.proofs.Settles.{Settles}
 use Rattle.numbers.proofs.common.gcd.Kinds as gcd_kinds
 use Rattle.numbers.proofs.common.gcd.Reads as gcd
-use Rattle.numbers.proofs.common.gcd32.Kinds as gcd32_kinds
-use Rattle.numbers.proofs.common.gcd32.Reads as gcd32
 use Rattle.numbers.proofs.common.lcm.Kinds as lcm_kinds
 use Rattle.numbers.proofs.common.lcm.Reads as lcm
 use Rattle.numbers.proofs.extreme.greatest.Kinds as greatest_kinds
@@ -22,9 +20,6 @@ use Rattle.numbers.proofs.quotient.rounded_up.Reads as rounded_up
 
 gcd_settled : Settles 0 gcd_kinds.ps gcd_kinds.r gcd.Post
 gcd_settled κs a x y s t p q = gcd_unique p q
-
-gcd32_settled : Settles 0 gcd32_kinds.ps gcd32_kinds.r gcd32.Post
-gcd32_settled κs a x y s t p q = gcd_unique p q
 
 lcm_settled : Settles 0 lcm_kinds.ps lcm_kinds.r lcm.Post
 lcm_settled κs a x y s t p q = lcm_within_unique _ _ _ x y p q

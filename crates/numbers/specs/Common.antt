@@ -1,8 +1,6 @@
 -- Common divisors and common multiples. a ∣ b says that a divides b; every number divides 0.
-use Rattle.std.specs.Prelude.{ℕ, ◌≤◌, ◌<◌}
+use Rattle.std.specs.Prelude.{ℕ, ◌≤◌, ◌<◌, Option, Some, None}
 use Rattle.std.specs.Int.{◌∣◌}
-use Rattle.numbers.specs.declared.common.Multiple.{Multiple}
-use Rattle.numbers.specs.declared.common.Multiple.TheVariants.{Is, Above}
 
 -- g is the greatest common divisor of a and b: it divides both, and every number that divides both divides it
 pub record IsGcd (a b g : ℕ) : Type 0 where
@@ -16,7 +14,7 @@ pub record IsLcm (a b l : ℕ) : Type 0 where
   pub right : b ∣ l
   pub least : (m : ℕ) → a ∣ m → b ∣ m → l ∣ m
 
--- the least common multiple under a limit: its value where it is within the limit, and otherwise that it is above
-abbrev pub IsLcmWithin : ℕ → ℕ → ℕ → Multiple → Type 0
-IsLcmWithin a b limit (Is l) = IsLcm a b l × (l ≤ limit)
-IsLcmWithin a b limit Above = (l : ℕ) → IsLcm a b l → limit < l
+-- the least common multiple under a limit: it, where it is within the limit, and none where it is above
+abbrev pub IsLcmWithin : ℕ → ℕ → ℕ → Option ℕ → Type 0
+IsLcmWithin a b limit (Some l) = IsLcm a b l × (l ≤ limit)
+IsLcmWithin a b limit None = (l : ℕ) → IsLcm a b l → limit < l

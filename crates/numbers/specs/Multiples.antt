@@ -1,10 +1,8 @@
 -- Laws of the least common multiple.
-use Rattle.std.specs.Prelude.{◌≡◌, ℕ, zero, suc, ◌*◌, ◌/◌, ◌<◌}
+use Rattle.std.specs.Prelude.{◌≡◌, refl, ℕ, zero, suc, ◌*◌, ◌/◌, ◌<◌, Option, Some, None}
 use Rattle.std.proofs.Common.{sym, subst, ap, ◌∙◌, ⊎_elim, mul_assoc, not-le_of_lt, mul-pos, le_refl, le_of_suc-le-suc, not-suc-le-zero, lt-suc_self, eq-or-lt_of_le}
 use Rattle.std.specs.Int.{◌∣◌}
 use Rattle.std.proofs.Math.Nat.{dvd_antisymm, dvd-zero, dvd_refl, dvd-mul_left, dvd-mul_right, mul-dvd-mul_right, mul-div_cancel', div-mul_cancel, dvd_trans, one-dvd, pos_of_dvd_of_pos, le_step}
-use Rattle.numbers.specs.declared.common.Multiple.{Multiple}
-use Rattle.numbers.specs.declared.common.Multiple.TheVariants.{Is, Above}
 use Rattle.numbers.specs.Common.{IsGcd, IsLcm, IsLcmWithin}
 use Rattle.numbers.specs.Euclid.{gcd_comm, gcd_exists, gcd_pos, euclid}
 
@@ -16,11 +14,11 @@ pub record LcmOfAll (P : ℕ → Type 0) (q : ℕ → ℕ) (n l : ℕ) : Type 0 
 pub lcm_unique : {a b l m : ℕ} → IsLcm a b l → IsLcm a b m → l ≡ m
 lcm_unique {l = l} {m = m} p q = dvd_antisymm (p.least m q.left q.right) (q.least l p.left p.right)
 
-pub lcm_within_unique : (a b limit : ℕ) (r s : Multiple) → IsLcmWithin a b limit r → IsLcmWithin a b limit s → r ≡ s
-lcm_within_unique a b limit (Is l) (Is m) p q = ap Is (lcm_unique p.0 q.0)
-lcm_within_unique a b limit (Is l) Above p q = absurd (not-le_of_lt (q l p.0) p.1)
-lcm_within_unique a b limit Above (Is m) p q = absurd (not-le_of_lt (p m q.0) q.1)
-lcm_within_unique a b limit Above Above p q = λ i. Above
+pub lcm_within_unique : (a b limit : ℕ) (r s : Option ℕ) → IsLcmWithin a b limit r → IsLcmWithin a b limit s → r ≡ s
+lcm_within_unique a b limit (Some l) (Some m) p q = ap Some (lcm_unique p.0 q.0)
+lcm_within_unique a b limit (Some l) None p q = absurd (not-le_of_lt (q l p.0) p.1)
+lcm_within_unique a b limit None (Some m) p q = absurd (not-le_of_lt (p m q.0) q.1)
+lcm_within_unique a b limit None None p q = refl
 
 pub lcm_zero : (a : ℕ) {b : ℕ} → b ≡ 0 → IsLcm a b 0
 lcm_zero a e = rw e (record { left = dvd-zero a; right = dvd_refl 0; least = λ m l r. r })

@@ -22,6 +22,7 @@ pub fn plus(a: Fraction, b: Fraction) -> Fraction
 }
 
 // Whether a is at most b: by whole parts, and where these are equal by the remainders turned over, so that nothing overflows.
+// No PartialOrd: with it goes `==`, and the derived one tells 1/2 and 2/4 apart.
 pub fn at_most(a: Fraction, b: Fraction) -> bool
     requires { Proper a × Proper b }
     ensures { Decides (AtMost a b) result }

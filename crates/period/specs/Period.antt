@@ -1,5 +1,5 @@
 -- The period rule: firing n of an actor begins n periods after its start, and has the ticks up to the next beginning.
-use Rattle.std.specs.Prelude.{◌≡◌, refl, ℕ, suc, ◌+◌, ◌-◌, ◌*◌, ◌/◌, ◌^◌, ◌≤◌, ◌<◌}
+use Rattle.std.specs.Prelude.{◌≡◌, refl, ℕ, suc, ◌+◌, ◌-◌, ◌*◌, ◌/◌, ◌^◌, ◌≤◌, ◌<◌, Option, Some, None}
 use Rattle.std.proofs.Common.{sym, ap, ◌∙◌, le_trans, mul-le-mul, not-suc-le-zero, not-le_of_lt, le-div_iff_mul-le, arith}
 use Rattle.numbers.specs.Common.{IsLcm}
 use Rattle.numbers.specs.Extreme.{ExactlyFirst, least_unique}
@@ -12,10 +12,6 @@ use Rattle.units.specs.Ticks.{tick, plus_ticks, times_ticks}
 use Rattle.units.specs.Firings.{firing}
 use Rattle.units.specs.Limits.{MOST_WCET}
 use Rattle.units.specs.Products.{MOST_COUNTED, MOST_WORK, products, product_fits}
-use Rattle.period.specs.declared.Firings.{Firings}
-use Rattle.period.specs.declared.Firings.TheVariants.{Are, Above}
-use Rattle.period.specs.declared.Length.{Length}
-use Rattle.period.specs.declared.Length.TheVariants.{Is, Above as TooLong}
 
 -- the firing after n
 abbrev pub next : Firing → Firing
@@ -41,19 +37,19 @@ HaveEnded start period by n = ExactlyFirst (λ k. (ends_at start period (firing 
 abbrev pub work_of : Tick → Firing → Tick
 work_of wcet q = times_ticks q.0 wcet
 
--- the least common multiple of two numbers of firings under a limit: its value where it is within the limit, and otherwise that it is above
-abbrev pub CommonWithin : Firing → Firing → Firing → Firings → Type 0
-CommonWithin a b limit (Are l) = IsLcm a.0 b.0 l.0 × (l.0 ≤ limit.0)
-CommonWithin a b limit Above = (l : Firing) → IsLcm a.0 b.0 l.0 → limit.0 < l.0
+-- the least common multiple of two numbers of firings under a limit: it, where it is within the limit, and none where it is above
+abbrev pub CommonWithin : Firing → Firing → Firing → Option Firing → Type 0
+CommonWithin a b limit (Some l) = IsLcm a.0 b.0 l.0 × (l.0 ≤ limit.0)
+CommonWithin a b limit None = (l : Firing) → IsLcm a.0 b.0 l.0 → limit.0 < l.0
 
 -- the iteration of actors whose firings have the common multiple l and whose greatest work is w: l times (w / l rounded up)
 abbrev pub IterationIs : Firing → Tick → Tick → Type 0
 IterationIs l w h = (r : ℕ) × RoundedUp w.0 l.0 r × (h.0 ≡ l.0 * r)
 
--- the same under a limit: its length where it is within the limit, and otherwise that it is above
-abbrev pub IterationWithin : Firing → Tick → Tick → Length → Type 0
-IterationWithin l w limit (Is h) = IterationIs l w h × (h.0 ≤ limit.0)
-IterationWithin l w limit TooLong = (h : Tick) → IterationIs l w h → limit.0 < h.0
+-- the same under a limit: it, where it is within the limit, and none where it is above
+abbrev pub IterationWithin : Firing → Tick → Tick → Option Tick → Type 0
+IterationWithin l w limit (Some h) = IterationIs l w h × (h.0 ≤ limit.0)
+IterationWithin l w limit None = (h : Tick) → IterationIs l w h → limit.0 < h.0
 
 -- the period of an actor with q firings in an iteration of h ticks: h / q
 abbrev pub period_of : Tick → Firing → Tick
@@ -95,8 +91,8 @@ module _ (start period by : Tick) where
 pub iteration_unique : (l : Firing) (w : Tick) {g h : Tick} → IterationIs l w g → IterationIs l w h → g ≡ h
 iteration_unique l w (r, p, e) (s, q, f) = λ i. record { 0 = (e ∙ ap (λ (n : ℕ). l.0 * n) (least_unique _ p q) ∙ sym f) i }
 
-pub common_unique : (a b limit : Firing) (x y : Firings) → CommonWithin a b limit x → CommonWithin a b limit y → x ≡ y
-common_unique a b limit (Are l) (Are m) p q = λ i. Are (firing (lcm_unique p.0 q.0 i))
-common_unique a b limit (Are l) Above p q = absurd (not-le_of_lt (q l p.0) p.1)
-common_unique a b limit Above (Are m) p q = absurd (not-le_of_lt (p m q.0) q.1)
-common_unique a b limit Above Above p q = refl
+pub common_unique : (a b limit : Firing) (x y : Option Firing) → CommonWithin a b limit x → CommonWithin a b limit y → x ≡ y
+common_unique a b limit (Some l) (Some m) p q = λ i. Some (firing (lcm_unique p.0 q.0 i))
+common_unique a b limit (Some l) None p q = absurd (not-le_of_lt (q l p.0) p.1)
+common_unique a b limit None (Some m) p q = absurd (not-le_of_lt (p m q.0) q.1)
+common_unique a b limit None None p q = refl

@@ -4,10 +4,10 @@
 ghost use Rattle.std.specs.Prelude.{◌≡◌, ◌^◌, ◌<◌};
 ghost use Rattle.period.specs.Period.{begins_at, ends_at, work_of, CommonWithin, IterationWithin, period_of, share_of};
 
-use numbers::common::{Multiple, lcm};
+use numbers::common::lcm;
 use numbers::fraction::Fraction;
 use numbers::quotient::rounded_up;
-use units::{Firing, Tick};
+use units::{Count, Firing, Tick};
 
 // The tick at which firing n begins.
 pub fn begins(start: Tick, period: Tick, n: Firing) -> Tick
@@ -33,42 +33,22 @@ pub fn work(wcet: Tick, firings: Firing) -> Tick
     wcet.times(firings.firings())
 }
 
-// A number of firings under a limit: its value, or that it is above.
-#[derive(Drop)]
-pub enum Firings {
-    Are(Firing),
-    Above,
-}
-
-// The least common multiple of two numbers of firings, under a limit.
-pub fn common(a: Firing, b: Firing, limit: Firing) -> Firings
+// The least common multiple of two numbers of firings, where it is within the limit; none where it is above.
+pub fn common(a: Firing, b: Firing, limit: Firing) -> Option<Firing>
     ensures { CommonWithin a b limit result }
 {
-    match lcm(a.firings(), b.firings(), limit.firings()) {
-        Multiple::Is(l) => Firings::Are(Firing::of(l)),
-        Multiple::Above => Firings::Above,
-    }
+    lcm(a.firings(), b.firings(), limit.firings()).map(Firing::of)
 }
 
-// The length of an iteration under a limit: its ticks, or that it is above.
-#[derive(Drop)]
-pub enum Length {
-    Is(Tick),
-    Above,
-}
-
-// The iteration in which actors whose firings have this common multiple do their work.
-pub fn iteration(common: Firing, work: Tick, limit: Tick) -> Length
+// The iteration in which actors whose firings have this common multiple do their work, where it is within the limit; none where it is above.
+pub fn iteration(common: Firing, work: Tick, limit: Tick) -> Option<Tick>
     requires { 0 < common.0 }
     ensures { IterationWithin common work limit result }
 {
     let each = common.firings();
-    let times = rounded_up(work.ticks(), each);
-    if times <= limit.ticks() / each {
-        Length::Is(Tick::of(each * times))
-    } else {
-        Length::Above
-    }
+    let ticks = each.checked_mul(rounded_up(work.ticks(), each))?;
+    let iteration = Tick::of(ticks);
+    iteration.at_most(limit).then_some(iteration)
 }
 
 // The period of an actor with so many firings in an iteration.

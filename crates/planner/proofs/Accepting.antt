@@ -10,18 +10,15 @@ use Rattle.numbers.specs.Joined.{joined, joined_same}
 use Rattle.numbers.specs.Tab.{tab, stretch_of}
 use Rattle.numbers.proofs.Laid.{stretch_joined}
 use Rattle.units.specs.Limits.{MODES, CHANNELS}
+use Rattle.std.specs.Prelude.{Ok, Err}
 use Rattle.terms.specs.declared.refusal.Refusal.{Refusal}
 use Rattle.tables.specs.Shape.{Mode, Table, mode_at, channel_at}
 use Rattle.tables.specs.Proper.{ProperMode, ProperTable}
 use Rattle.tables.specs.Memory.{FRONT_WORDS, CHANNEL_BYTES, CHANNELS_BYTES, channel_bytes, channels_of, table_in, table_channels}
 use Rattle.tables.proofs.Remembered.{length_channels, table_in_law}
-use Rattle.reader.specs.declared.Answer.{Answer as ReadAnswer}
-use Rattle.reader.specs.declared.Answer.TheVariants.{Read}
 use Rattle.reader.specs.Told.{ReadInto}
 use Rattle.reader.proofs.Again.{reads_proper}
 use Rattle.planning.specs.declared.ModePlan.{ModePlan}
-use Rattle.planning.specs.declared.Answer.{Answer as PlanningAnswer}
-use Rattle.planning.specs.declared.Answer.TheVariants.{Planned as IsPlanned, Refused as NotPlanned}
 use Rattle.planning.specs.Nothing.{no_part}
 use Rattle.planning.specs.Plan.{IsPart, refused}
 use Rattle.planning.specs.Steps.{AnyComes, Refusing}
@@ -29,12 +26,10 @@ use Rattle.layout.specs.Words.{WORDS, planned_front, mode_words, modes_words}
 use Rattle.layout.specs.Blocks.{CARRIED_WORDS, carried_at, carried_words, channel_laid, mode_laid}
 use Rattle.layout.specs.Laws.{length_planned, length_modes}
 use Rattle.layout.proofs.Laying.{ended_closed}
-use Rattle.planner.specs.declared.Answer.TheVariants.{Accepted, Refused}
 use Rattle.planner.specs.Plans.{Reads, Plans, not_planned, accepted}
 use Rattle.planner.specs.Held.{HeldModes}
 use Rattle.planner.specs.Modes.{Fresh, ModesCome, laid_at, planned_fronts, all_carried, Whole, WholeAt}
 use Rattle.planner.specs.Changes.{MODES_WORDS, Runs, ChangesPut}
-use Rattle.planner.proofs.Answering.{told_read}
 use Rattle.planner.proofs.Blank.{part_ended, unlisted_words}
 use Rattle.planner.proofs.Coming.{length_carried}
 use Rattle.planner.proofs.Holding.{held_runs, held_planned, held_words, comes_part, modes_graph, modes_held}
@@ -49,7 +44,7 @@ module _ (m : Mode) (p : ModePlan) where
   unfolding mode_words
   mode_from = ap (λ (l : List ℕ). planned_front m p ++ l) (joined_same CHANNELS _ _ channel_from)
 
-  mode_whole : ProperMode m → AnyComes m 1 IsPlanned p → Whole (planned_front m p) (channels_of m) (carried_words p)
+  mode_whole : ProperMode m → AnyComes m 1 (Ok p) → Whole (planned_front m p) (channels_of m) (carried_words p)
   mode_whole proper comes =
       record {
         closed = ended_closed m p _ _ _ (part_ended m p 1 proper comes) refl channel_from;
@@ -79,15 +74,12 @@ module _ (t : Table) (ps : List ModePlan) where
   modes_from = joined_same MODES _ _ (λ m h. (λ i. mode_laid (front_at_law m h i) (channels_at_law m h i) (carried_at_law m h i)) ∙ mode_from (mode_at t m) (p m))
 
 -- a text that is read into memory
-module _ {text fronts channels : List ℕ} {a : ReadAnswer} (into : ReadInto text a fronts channels) (read : a ≡ Read) where
+module _ {text fronts channels : List ℕ} (into : ReadInto text (Ok tt) fronts channels) where
   abbrev t : Table
   t = into.table
 
-  reads : Reads text t
-  reads = told_read into.told read
-
   proper : ProperTable t
-  proper = reads_proper text t reads
+  proper = reads_proper text t into.told
 
   same : table_in fronts channels ≡ t
   same = ap₂ table_in into.fronts_are into.channels_are ∙ table_in_law t proper
@@ -98,16 +90,16 @@ module _ {text fronts channels : List ℕ} {a : ReadAnswer} (into : ReadInto tex
       (record { proper = proper; fronts_are = into.fronts_are; channels_are = into.channels_are; none_carried = e })
 
   -- a mode of its table is refused
-  module _ (b : PlanningAnswer) (planned carried : List ℕ) (come : ModesCome (table_in fronts channels) b planned carried) (before : List ℕ) (long : length before ≡ WORDS) where
-    pub memory_refused : (r : Refusal) → b ≡ NotPlanned r → Plans text before (Refused r) before
-    memory_refused r e =
-        let (k, listed, earlier, by) : Refusing t r = subst (λ (x : Table). Refusing x r) same (subst (λ (y : PlanningAnswer). ModesCome (table_in fronts channels) y planned carried) e come) in
-        not_planned long reads (refused listed earlier by)
+  module _ (before : List ℕ) (long : length before ≡ WORDS) where
+    pub memory_refused : (r : Refusal) → Refusing (table_in fronts channels) r → Plans text before (Err r) before
+    memory_refused r come =
+        let (k, listed, earlier, by) : Refusing t r = subst (λ (x : Table). Refusing x r) same come in
+        not_planned long into.told (refused listed earlier by)
 
     -- or all are planned
-    module _ (e : b ≡ IsPlanned) where
-      all : ModesCome t IsPlanned planned carried
-      all = subst (λ (x : Table). ModesCome x IsPlanned planned carried) same (subst (λ (y : PlanningAnswer). ModesCome (table_in fronts channels) y planned carried) e come)
+    module _ (planned carried : List ℕ) (come : ModesCome (table_in fronts channels) (Ok tt) planned carried) where
+      all : ModesCome t (Ok tt) planned carried
+      all = subst (λ (x : Table). ModesCome x (Ok tt) planned carried) same come
 
       abbrev modes : List ℕ
       modes = modes_words t (record { parts = all.0; changes = [] })
@@ -139,8 +131,8 @@ module _ {text fronts channels : List ℕ} {a : ReadAnswer} (into : ReadInto tex
         memory_runs = subst Runs (sym first) (held_runs modes held modes_long)
 
         -- and the changes behind them
-        pub memory_accepted : (after : List ℕ) → ChangesPut (take MODES_WORDS words) after → Plans text before Accepted after
+        pub memory_accepted : (after : List ℕ) → ChangesPut (take MODES_WORDS words) after → Plans text before (Ok tt) after
         memory_accepted after behind =
             let (cs, found, left) : ChangesPut modes after = subst (λ (x : List ℕ). ChangesPut x after) first behind in
-            subst (Plans text before Accepted) (sym (left ∙ held_words modes held cs modes_long))
-            (accepted long (subst (Reads text) (sym (modes_graph t (record { parts = all.0; changes = [] }) proper)) reads) (held_planned modes held cs found))
+            subst (Plans text before (Ok tt)) (sym (left ∙ held_words modes held cs modes_long))
+            (accepted long (subst (Reads text) (sym (modes_graph t (record { parts = all.0; changes = [] }) proper)) into.told) (held_planned modes held cs found))

@@ -24,7 +24,7 @@ use Rattle.tables.specs.Memory.{FRONT_WORDS, head_of, mode_in}
 use Rattle.change.specs.Running.{prepared_of, running_in}
 use Rattle.change.proofs.Fronts.{running_in_law}
 use Rattle.planning.specs.declared.ModePlan.{ModePlan}
-use Rattle.planning.specs.declared.Answer.TheVariants.{Planned as IsPlanned}
+use Rattle.std.specs.Prelude.{Ok}
 use Rattle.planning.specs.Nothing.{empty_part}
 use Rattle.planning.specs.Plan.{ModeRefused, ModePlanned}
 use Rattle.planning.specs.Changes.{running_of}
@@ -90,7 +90,7 @@ module _ (m : Mode) (p : ModePlan) (proper : ProperMode m) where
       ended (λ k h b. rw e (none k, none k))
 
 -- a proper mode with what is planned of it, or with nothing where it is not listed
-module _ (m : Mode) (p : ModePlan) (n : ℕ) (proper : ProperMode m) (comes : AnyComes m n IsPlanned p) where
+module _ (m : Mode) (p : ModePlan) (n : ℕ) (proper : ProperMode m) (comes : AnyComes m n (Ok p)) where
   pub part_sound : SmallPart p × (p.startup ≡ get_or p.starts p.sink (tick 0))
   part_sound = go (ℕ_discrete m.active 0)
     where

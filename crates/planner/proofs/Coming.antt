@@ -21,8 +21,7 @@ use Rattle.tables.specs.Proper.{ProperMode, ProperTable}
 use Rattle.tables.specs.Memory.{FRONT_WORDS, CHANNELS_BYTES, TABLE_WORDS, TABLE_BYTES, head_words, actor_words, front_words, no_times, head_of, front_of, channels_of, head_in, actor_in, mode_in, Stands, table_channels}
 use Rattle.tables.proofs.Remembered.{length_front, length_channels, front_head, front_actor, mode_in_law, zeros_joined}
 use Rattle.planning.specs.declared.ModePlan.{ModePlan}
-use Rattle.planning.specs.declared.Answer.{Answer}
-use Rattle.planning.specs.declared.Answer.TheVariants.{Planned as IsPlanned, Refused as IsRefused}
+use Rattle.std.specs.Prelude.{Result, Ok, Err}
 use Rattle.planning.specs.Nothing.{no_part, empty_part}
 use Rattle.planning.specs.Plan.{IsPart}
 use Rattle.planning.specs.Steps.{FoundParts, Refusing}
@@ -60,7 +59,7 @@ module _ (m : Mode) (front channels carried : List ℕ) (fresh : FreshMode m fro
   fresh_active = ap (λ (f : List ℕ). get_or f 0 0) fresh.front_is
 
   -- what comes of it
-  pub unlisted_comes : (n : ℕ) → m.active ≡ 0 → ModeComes m n IsPlanned front carried
+  pub unlisted_comes : (n : ℕ) → m.active ≡ 0 → ModeComes m n (Ok tt) front carried
   unlisted_comes n e = (empty_part, ((λ h. absurd (h e)), (λ h. refl)), fresh.front_is ∙ sym (empty_front m), fresh.none_carried ∙ sym empty_carried)
 
   pub fresh_planned : (p : ModePlan) → front_words (head_with (head_in front) p) (actor_in front) (times_at p) ≡ planned_front m p
@@ -155,23 +154,23 @@ module _ (t : Table) (channels : List ℕ) where
     coming_fresh = subst (λ (m : Mode). FreshMode m front bytes behind) (sym mode_is) at_hand
 
     -- one mode more is planned, or it refuses the table
-    told : (a b : Answer) (n : ℕ) (f c : List ℕ) → n ≡ number_of m → a ≡ b → ModeComes (mode_in front bytes) n a f c → ModeComes M (number_of m) b f c
-    told a b n f c e g comes = transport (λ i. ModeComes (mode_is i) (e i) (g i) f c) comes
+    told : (b : Result (Unit {0}) Refusal) (n : ℕ) (f c : List ℕ) → n ≡ number_of m → ModeComes (mode_in front bytes) n b f c → ModeComes M (number_of m) b f c
+    told b n f c e comes = transport (λ i. ModeComes (mode_is i) (e i) b f c) comes
 
-    pub coming_next : (a : Answer) (n : ℕ) (f c : List ℕ) → n ≡ number_of m → a ≡ IsPlanned → ModeComes (mode_in front bytes) n a f c
+    pub coming_next : (n : ℕ) (f c : List ℕ) → n ≡ number_of m → ModeComes (mode_in front bytes) n (Ok tt) f c
         → Coming (put_mid (FRONT_WORDS * m) (FRONT_WORDS * m + FRONT_WORDS - FRONT_WORDS * m) fronts f) (put_mid (CARRIED_WORDS * m) (CARRIED_WORDS * m + CARRIED_WORDS - CARRIED_WORDS * m) carried c) (m + 1)
-    coming_next a n f c e g comes =
-        let (p, any, fe, ce) = told a IsPlanned n f c e g comes in
-        coming (set ps m p) (filled_set MODES (IsPart t) empty_part no_part ps m p h (part_comes t proper m h IsPlanned p any refl) so_far.found)
+    coming_next n f c e comes =
+        let (p, any, fe, ce) = told (Ok tt) n f c e comes in
+        coming (set ps m p) (filled_set MODES (IsPart t) empty_part no_part ps m p h (part_comes t proper m h p any) so_far.found)
         (ap (λ (l : List ℕ). put_mid (FRONT_WORDS * m) (FRONT_WORDS * m + FRONT_WORDS - FRONT_WORDS * m) l f) so_far.fronts_are
         ∙ part_more FRONT_WORDS (λ j. planned_front (mode_at t j)) (λ j. length_planned (mode_at t j)) ps so_far.found.long m h p f fe)
         (ap (λ (l : List ℕ). put_mid (CARRIED_WORDS * m) (CARRIED_WORDS * m + CARRIED_WORDS - CARRIED_WORDS * m) l c) so_far.carried_are
         ∙ part_more CARRIED_WORDS (λ j. carried_words) (λ j. length_carried) ps so_far.found.long m h p c ce)
 
-    pub coming_refused : (a : Answer) (n : ℕ) (r : Refusal) (f c : List ℕ) → n ≡ number_of m → a ≡ IsRefused r → ModeComes (mode_in front bytes) n a f c → Refusing t r
-    coming_refused a n r f c e g comes = refusal_comes t proper m h ps (IsRefused r) r empty_part so_far.found (told a (IsRefused r) n f c e g comes) refl
+    pub coming_refused : (n : ℕ) (r : Refusal) (f c : List ℕ) → n ≡ number_of m → ModeComes (mode_in front bytes) n (Err r) f c → Refusing t r
+    coming_refused n r f c e comes = refusal_comes t proper m h ps r so_far.found (told (Err r) n f c e comes)
 
-  pub coming_all : (fronts carried : List ℕ) (m : ℕ) → m ≡ MODES → Coming fronts carried m → ModesCome t IsPlanned fronts carried
+  pub coming_all : (fronts carried : List ℕ) (m : ℕ) → m ≡ MODES → Coming fronts carried m → ModesCome t (Ok tt) fronts carried
   coming_all fronts carried m e c = (c.parts, subst (FoundParts t c.parts) e c.found, c.fronts_are, c.carried_are)
 
 pub channels_long : (t : Table) → length (table_channels t) ≡ TABLE_BYTES

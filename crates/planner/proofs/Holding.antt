@@ -1,5 +1,5 @@
 -- Words that hold a plan, mode by mode. Assumes nothing.
-use mathlib.Core.Path.{◌≡◌, refl, sym, ap, ap₂, subst, ◌∙◌}
+use mathlib.Core.Path.{◌≡◌, sym, ap, ap₂, subst, ◌∙◌}
 use mathlib.Core.Bool.{Bool}
 use mathlib.Core.List.{List, [], ◌++◌, append-nil}
 use Prim.Native.Nat.{ℕ, ◌+◌, ◌-◌, ◌*◌, ◌<◌}
@@ -23,7 +23,8 @@ use Rattle.tables.proofs.Housing.{Housed, housed_next, at_home_all, housed_decid
 use Rattle.change.specs.declared.Timing.{Timing}
 use Rattle.change.specs.Running.{Running, Fitting, running_in, Ready}
 use Rattle.planning.specs.declared.ModePlan.{ModePlan}
-use Rattle.planning.specs.declared.Answer.TheVariants.{Planned as IsPlanned}
+use Rattle.std.specs.Prelude.{Ok, Option, None}
+use Rattle.std.specs.Option.{IsSome}
 use Rattle.planning.specs.Shape.{Plan}
 use Rattle.planning.specs.Nothing.{no_part, empty_part}
 use Rattle.planning.specs.Plan.{part_at, IsPart, Planned}
@@ -49,7 +50,7 @@ module _ (l : List ℕ) (held : Held l) where
   abbrev p : ModePlan
   p = part_of l
 
-  pub held_comes : AnyComes m 1 IsPlanned p
+  pub held_comes : AnyComes m 1 (Ok p)
   held_comes = (held.listed, held.unlisted)
 
   front_held : take FRONT_WORDS l ≡ planned_front m p
@@ -101,8 +102,8 @@ module _ (words : List ℕ) where
     parts_held : FoundParts (graph_of words) (plan_of words).parts MODES
     parts_held =
         filled_whole MODES (IsPart (graph_of words)) empty_part no_part (plan_of words).parts parts_long
-        (λ k h. part_comes (graph_of words) held.proper k h IsPlanned (part_at (plan_of words) k)
-        (rw (graph_mode k h, plan_part k h) (held_comes (part MODE_WORDS k words) (held.mode k h))) refl)
+        (λ k h. part_comes (graph_of words) held.proper k h (part_at (plan_of words) k)
+        (rw (graph_mode k h, plan_part k h) (held_comes (part MODE_WORDS k words) (held.mode k h))))
 
     -- with the changes between them they are a plan, which leaves them
     module _ (cs : List Timing) where
@@ -122,11 +123,11 @@ module _ (words : List ℕ) where
 
 -- the modes of words as they are gone through: the first m are held, with their actors on the homes
 module _ (words : List ℕ) where
-  abbrev pub HeldBelow : ℕ → List ℕ → Type 0
+  abbrev pub HeldBelow : ℕ → List (Option ℕ) → Type 0
   HeldBelow m homes = Housed (graph_of words) m homes × Below (λ k. Held (part MODE_WORDS k words)) m
 
   -- all of them
-  pub below_decides : (homes : List ℕ) (r : Bool) → HeldBelow MODES homes → Decides ((i : ℕ) × (i < ACTORS) × (0 < get_or homes i 0)) r → Decides (HeldModes words) r
+  pub below_decides : (homes : List (Option ℕ)) (r : Bool) → HeldBelow MODES homes → Decides ((i : ℕ) × (i < ACTORS) × IsSome (get_or homes i None)) r → Decides (HeldModes words) r
   below_decides homes r (housed, held) d =
       let proper = housed_decides (graph_of words) homes r housed (graph_long words) d in
       ((λ t. record { proper = proper.0 t; mode = held }), (λ h. proper.1 h.proper))
@@ -146,11 +147,11 @@ module _ (words : List ℕ) where
         ap (λ (n : ℕ). tab ACTORS (actor_in (take n (drop (MODE_WORDS * m) words)))) wide
         ∙ ap (λ (f : List ℕ). tab ACTORS (actor_in f)) (sym (front_at_law words m)) ∙ ap (λ (m : Mode). m.actors) (sym (graph_mode words m h))
 
-    module _ (homes : List ℕ) (below : HeldBelow m homes) (held : Held (part MODE_WORDS m words)) where
+    module _ (homes : List (Option ℕ)) (below : HeldBelow m homes) (held : Held (part MODE_WORDS m words)) where
       mode_proper : ProperMode (mode_at (graph_of words) m)
       mode_proper = subst ProperMode (sym (graph_mode words m h)) held.proper
 
-      pub below_next : {next : List ℕ} → Below (AtHome homes (tab ACTORS (actor_in front))) ACTORS → next ≡ housed_of homes (tab ACTORS (actor_in front)) → HeldBelow (m + 1) next
+      pub below_next : {next : List (Option ℕ)} → Below (AtHome homes (tab ACTORS (actor_in front))) ACTORS → next ≡ housed_of homes (tab ACTORS (actor_in front)) → HeldBelow (m + 1) next
       below_next b e = (
         subst (Housed (graph_of words) (m + 1)) (sym (e ∙ ap (housed_of homes) actors_at_law))
             (housed_next (graph_of words) m homes below.0 mode_proper (subst (λ (l : List Actor). Below (AtHome homes l) ACTORS) actors_at_law b)),
@@ -161,7 +162,7 @@ module _ (words : List ℕ) where
       below_home p = subst (λ (l : List Actor). Below (AtHome homes l) ACTORS) (sym actors_at_law) (at_home_all (graph_of words) m homes below.0 mode_proper h p.proper)
 
 -- what is planned of a mode of a table comes of it
-pub comes_part : (t : Table) → ProperTable t → (k : ℕ) → k < MODES → (p : ModePlan) → IsPart t k p → AnyComes (mode_at t k) 1 IsPlanned p
+pub comes_part : (t : Table) → ProperTable t → (k : ℕ) → k < MODES → (p : ModePlan) → IsPart t k p → AnyComes (mode_at t k) 1 (Ok p)
 comes_part t proper k h p is = ((λ n. is.listed (listed_some t k proper h n)), (λ e. is.unlisted (λ x. listed_none t k x e)))
 
 -- the words of a planned table hold its modes

@@ -2,7 +2,6 @@
 use mathlib.Core.Path.{◌≡◌, refl, sym, ap, subst, subst₂, ◌∙◌}
 use mathlib.Core.List.{List}
 use Prim.Native.Nat.{ℕ}
-use native.Mathlib.Omega.{arith}
 use lib.ListN.{length}
 use Rattle.tables.specs.Shape.{Table}
 use Rattle.tables.specs.Proper.{ProperTable}
@@ -16,27 +15,23 @@ use Rattle.layout.specs.Words.{WORDS, words_of}
 use Rattle.layout.specs.Read.{graph_of, plan_of}
 use Rattle.layout.specs.Laws.{length_words, graph_back}
 use Rattle.layout.proofs.Planned.{plan_back}
-use Rattle.planner.specs.declared.Answer.{Answer}
-use Rattle.planner.specs.declared.Answer.TheVariants.{Accepted}
-use Rattle.planner.specs.Plans.{Reads, Plans, wrong_length, not_read, not_planned, accepted, Stored, Leaves}
+use Rattle.std.specs.Prelude.{Ok}
+use Rattle.planner.specs.Plans.{Reads, Plans, accepted, Stored, Leaves}
 
 -- a text reads as one table only
 pub reads_one : {text : List ℕ} {t u : Table} → Reads text t → Reads text u → t ≡ u
 reads_one p q = ap (λ (r : Reading). r.table) (told_one p q)
 
--- what is stored was left by a table
+-- what is accepted, and so what is stored, was left by a table
+accepted_leaves : {text before words : List ℕ} → Plans text before (Ok tt) words → (t : Table) × (w : Plan) × Leaves t w words
+accepted_leaves {text} (accepted {t} {w} l r p) = (t, w, record { text = text; reads = r; planned = p; left = refl })
+
 pub stored_leaves : (words : List ℕ) → Stored words → (t : Table) × (w : Plan) × Leaves t w words
-stored_leaves words (text, before, p) = go p refl
-  where
-    go : {a : Answer} {after : List ℕ} → Plans text before a after → a ≡ Accepted → (t : Table) × (w : Plan) × Leaves t w after
-    go (wrong_length n) e = let z : ◌≡◌ {A = ℕ} 0 1 = cc in absurd (omega arith)
-    go (not_read l r) e = let z : ◌≡◌ {A = ℕ} 0 1 = cc in absurd (omega arith)
-    go (not_planned l r p) e = let z : ◌≡◌ {A = ℕ} 0 1 = cc in absurd (omega arith)
-    go (accepted {t} {w} l r p) e = (t, w, record { text = text; reads = r; planned = p; left = refl })
+stored_leaves words (text, before, p) = accepted_leaves p
 
 pub leaves_stored : {t : Table} {w : Plan} {words : List ℕ} → Leaves t w words → Stored words
 leaves_stored {t} {w} {words} l =
-    (l.text, words, subst (Plans l.text words Accepted) (sym l.left) (accepted (ap length l.left ∙ length_words t w) l.reads l.planned))
+    (l.text, words, subst (Plans l.text words (Ok tt)) (sym l.left) (accepted (ap length l.left ∙ length_words t w) l.reads l.planned))
 
 -- the table that words hold, where it is proper and its plan leaves them
 pub holds_leaves : (t : Table) (w : Plan) (words : List ℕ) → ProperTable t → Planned t w → words ≡ words_of t w → Leaves t w words

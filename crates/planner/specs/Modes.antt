@@ -1,5 +1,5 @@
 -- Model: the memory of a table of which nothing is planned yet, and what comes of it, mode by mode.
-use Rattle.std.specs.Prelude.{◌≡◌, List, ℕ, ◌*◌, get_or, replicate}
+use Rattle.std.specs.Prelude.{◌≡◌, List, ℕ, ◌*◌, get_or, replicate, Result, Ok, Err}
 use Rattle.numbers.specs.Joined.{joined}
 use Rattle.numbers.specs.Tab.{stretch_of}
 use Rattle.units.specs.Limits.{MODES}
@@ -7,8 +7,7 @@ use Rattle.tables.specs.Shape.{Mode, Table, mode_at}
 use Rattle.tables.specs.Proper.{ProperMode, ProperTable}
 use Rattle.tables.specs.Memory.{FRONT_WORDS, CHANNELS_BYTES, front_of, channels_of, table_fronts, table_channels}
 use Rattle.planning.specs.declared.ModePlan.{ModePlan}
-use Rattle.planning.specs.declared.Answer.{Answer}
-use Rattle.planning.specs.declared.Answer.TheVariants.{Planned as IsPlanned, Refused as IsRefused}
+use Rattle.terms.specs.declared.refusal.Refusal.{Refusal}
 use Rattle.planning.specs.Nothing.{no_part}
 use Rattle.planning.specs.Plan.{ModeRefused}
 use Rattle.planning.specs.Steps.{AnyComes, FoundParts, Refusing}
@@ -23,9 +22,9 @@ pub record FreshMode (m : Mode) (front channels carried : List ℕ) : Type 0 whe
   pub none_carried : carried ≡ replicate CARRIED_WORDS 0
 
 -- what comes of it, as the mode with number n: what is planned of it stands in its front and in the words of its channels, or it is refused
-abbrev pub ModeComes : Mode → ℕ → Answer → List ℕ → List ℕ → Type 0
-ModeComes m n IsPlanned front carried = (p : ModePlan) × AnyComes m n IsPlanned p × (front ≡ planned_front m p) × (carried ≡ carried_words p)
-ModeComes m n (IsRefused r) front carried = (m.active ≡ 0 → ⊥) × ModeRefused m n r
+abbrev pub ModeComes : Mode → ℕ → Result (Unit {0}) Refusal → List ℕ → List ℕ → Type 0
+ModeComes m n (Ok u) front carried = (p : ModePlan) × AnyComes m n (Ok p) × (front ≡ planned_front m p) × (carried ≡ carried_words p)
+ModeComes m n (Err r) front carried = (m.active ≡ 0 → ⊥) × ModeRefused m n r
 
 -- the memory of table t, of which nothing is planned yet
 pub record Fresh (t : Table) (fronts channels carried : List ℕ) : Type 0 where
@@ -34,17 +33,18 @@ pub record Fresh (t : Table) (fronts channels carried : List ℕ) : Type 0 where
   pub channels_are : channels ≡ table_channels t
   pub none_carried : carried ≡ replicate (CARRIED_WORDS * MODES) 0
 
--- the fronts of its modes, and the words of their channels, with these parts
+-- the fronts of its modes, with these parts
 abbrev pub planned_fronts : Table → List ModePlan → List ℕ
 planned_fronts t ps = joined MODES (λ m. planned_front (mode_at t m) (get_or ps m no_part))
 
+-- and the words of their channels
 abbrev pub all_carried : List ModePlan → List ℕ
 all_carried ps = joined MODES (λ m. carried_words (get_or ps m no_part))
 
 -- what comes of it: the parts of all modes stand there, or the lowest mode that is refused refuses the table
-abbrev pub ModesCome : Table → Answer → List ℕ → List ℕ → Type 0
-ModesCome t IsPlanned fronts carried = (ps : List ModePlan) × FoundParts t ps MODES × (fronts ≡ planned_fronts t ps) × (carried ≡ all_carried ps)
-ModesCome t (IsRefused r) fronts carried = Refusing t r
+abbrev pub ModesCome : Table → Result (Unit {0}) Refusal → List ℕ → List ℕ → Type 0
+ModesCome t (Ok u) fronts carried = (ps : List ModePlan) × FoundParts t ps MODES × (fronts ≡ planned_fronts t ps) × (carried ≡ all_carried ps)
+ModesCome t (Err r) fronts carried = Refusing t r
 
 -- the words of mode m, from the memory of all modes
 abbrev pub laid_at : List ℕ → List ℕ → List ℕ → ℕ → List ℕ

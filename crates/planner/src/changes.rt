@@ -1,104 +1,119 @@
 // The changes between the modes that words hold.
-ghost use Rattle.std.specs.Prelude.{◌≡◌, ◌*◌, ◌<◌, length, take};
+ghost use Rattle.std.specs.Prelude.{◌≡◌, ◌<◌, length, take};
 ghost use Rattle.units.specs.Limits.{MODES as MODES_LIMIT};
-ghost use Rattle.tables.specs.Memory.{FRONT_WORDS, head_in};
-ghost use Rattle.change.specs.Work.{WORKS_WORDS};
-ghost use Rattle.change.specs.Running.{Fitting, running_in, works_words};
-ghost use Rattle.planning.specs.Nothing.{no_timing};
+ghost use Rattle.tables.specs.Memory.{FRONT_WORDS};
 ghost use Rattle.planning.specs.Changes.{ChangeOf};
 ghost use Rattle.layout.specs.Words.{CHANGES as CHANGES_LIMIT, WORDS};
-ghost use Rattle.planner.specs.Changes.{MODES_WORDS, runnings_in, Worked, Runs, ChangesPut, ChangesHeld};
+ghost use Rattle.planner.specs.Changes.{MODES_WORDS, front_at, runnings_in, works_listed, Worked, Runs, Kept, ChangeFound, ChangesPut, ChangesHeld};
 
-use change::{Timing, WORKS_WORDS, change, put_works};
+use change::{Prepared, Timing, Works, change, works_in};
 use layout::compare::change_holds;
 use layout::store::put_change;
 use layout::{CHANGE_WORDS, CHANGES, MODE_WORDS, MODES_END};
+use std::array;
 use tables::memory::{FRONT_WORDS, head_of};
 use units::Tick;
-use units::limits::MODES;
+use units::limits::{ACTORS, MODES};
 
-// No change.
-fn none() -> Timing
-    ensures { result ≡ no_timing }
+// The works of each mode, where it is listed.
+type AllWorks = [Option<[Works; ACTORS]>; MODES];
+
+// The front of mode m.
+fn front_at(words: &[u64], m: usize) -> &[u64]
+    requires { (length words.now ≡ MODES_WORDS) × (m < MODES_LIMIT) }
+    ensures { (result.now ≡ front_at words.now m) × (length result.now ≡ FRONT_WORDS) }
 {
-    Timing {
-        overlap: Tick::NONE,
-        offset: Tick::NONE,
-        worst: Tick::NONE,
-    }
+    let a = MODE_WORDS * m;
+    &words[a..a + FRONT_WORDS]
 }
 
-// The works of a mode that is listed; those of another stay as they stood.
-fn works_of(front: &[u64], works: &mut [u64])
-    requires { (length front.now ≡ FRONT_WORDS) × (length works.old ≡ WORKS_WORDS) × Fitting (running_in front.now) }
-    ensures { (length works.new ≡ WORKS_WORDS) × (((head_in front.now).active ≡ 0 → ⊥) → works.new ≡ works_words front.now) }
+// The works of mode m, where it is listed.
+fn works_at(words: &[u64], m: usize) -> Option<[Works; ACTORS]>
+    requires { Runs words.now × (m < MODES_LIMIT) }
+    ensures { result ≡ works_listed (front_at words.now m) }
 {
-    if front[0] == 0 {
-        return;
+    let front = front_at(words, m);
+    if head_of(front).active == 0 {
+        None
+    } else {
+        Some(works_in(front))
     }
-    put_works(front, works);
 }
 
 // The works of all modes that are listed.
-pub(crate) fn all_works(words: &[u64], works: &mut [u64])
-    requires { Runs words.now × (length works.old ≡ WORKS_WORDS * MODES_LIMIT) }
-    ensures { Worked words.now works.new }
+fn all_works(words: &[u64]) -> AllWorks
+    requires { Runs words.now }
+    ensures { Worked words.now result }
 {
-    for m in 0..MODES {
-        let a = MODE_WORDS * m;
-        let b = a + FRONT_WORDS;
-        let c = WORKS_WORDS * m;
-        let d = c + WORKS_WORDS;
-        works_of(&words[a..b], &mut works[c..d]);
-    }
+    array::from_fn(|m| works_at(words, m))
 }
 
-// The change at this place of all pairs of modes; none where one of the two is not listed, or they are the same.
-fn timing_at(words: &[u64], works: &[u64], place: usize) -> Timing
+// Mode m as it is kept for changes, where it is listed.
+fn prepared<'a>(words: &'a [u64], works: &'a AllWorks, m: usize) -> Option<Prepared<'a>>
+    requires { Runs words.now × Worked words.now works.now × (m < MODES_LIMIT) }
+    ensures { Kept (front_at words.now m) result }
+{
+    let works = works[m].as_ref()?;
+    Some(Prepared {
+        front: front_at(words, m),
+        works,
+    })
+}
+
+// The change from mode k to mode l, where both are listed and they are not the same.
+fn change_at(words: &[u64], works: &AllWorks, k: usize, l: usize) -> Option<Timing>
+    requires { Runs words.now × Worked words.now works.now × (k < MODES_LIMIT) × (l < MODES_LIMIT) }
+    ensures { ChangeFound words.now k l result }
+{
+    if k == l {
+        return None;
+    }
+    let old = prepared(words, works, k)?;
+    let new = prepared(words, works, l)?;
+    Some(change(old, new))
+}
+
+// The change at this place of all pairs of modes.
+fn timing_at(words: &[u64], works: &AllWorks, place: usize) -> Timing
     requires { Runs words.now × Worked words.now works.now × (place < CHANGES_LIMIT) }
     ensures { ChangeOf (runnings_in words.now) place result }
 {
-    let k = place / MODES;
-    let l = place % MODES;
-    let a = MODE_WORDS * k;
-    let b = a + FRONT_WORDS;
-    let c = MODE_WORDS * l;
-    let d = c + FRONT_WORDS;
-    let old = head_of(&words[a..b]);
-    let new = head_of(&words[c..d]);
-    if (old.active == 0) | (new.active == 0) | (k == l) {
-        return none();
-    }
-    let e = WORKS_WORDS * k;
-    let f = e + WORKS_WORDS;
-    let g = WORKS_WORDS * l;
-    let h = g + WORKS_WORDS;
-    change(&words[a..b], &works[e..f], &words[c..d], &works[g..h])
+    // the plan's words are 0 where there is no change
+    change_at(words, works, place / MODES, place % MODES).unwrap_or(Timing {
+        overlap: Tick::NONE,
+        offset: Tick::NONE,
+        worst: Tick::NONE,
+    })
 }
 
 // Writes the changes behind the modes.
-pub(crate) fn put_changes(works: &[u64], words: &mut [u64])
-    requires { (length words.old ≡ WORDS) × Runs (take MODES_WORDS words.old) × Worked (take MODES_WORDS words.old) works.now }
+pub(crate) fn put_changes(words: &mut [u64])
+    requires { (length words.old ≡ WORDS) × Runs (take MODES_WORDS words.old) }
     ensures { ChangesPut (take MODES_WORDS words.old) words.new }
 {
+    let (modes, behind) = words.split_at_mut(MODES_END);
+    let works = all_works(modes);
+    // n is the place of a pair of modes, of which they and the place of their words come
     for n in 0..CHANGES {
-        let a = MODES_END + CHANGE_WORDS * n;
-        let e = a + CHANGE_WORDS;
-        let timing = timing_at(&words[0..MODES_END], works, n);
-        put_change(timing, &mut words[a..e]);
+        let a = CHANGE_WORDS * n;
+        put_change(
+            timing_at(modes, &works, n),
+            &mut behind[a..a + CHANGE_WORDS],
+        );
     }
 }
 
 // Whether the changes stand behind the modes.
-pub(crate) fn changes_hold(works: &[u64], words: &[u64]) -> bool
-    requires { (length words.now ≡ WORDS) × Runs (take MODES_WORDS words.now) × Worked (take MODES_WORDS words.now) works.now }
+pub(crate) fn changes_hold(words: &[u64]) -> bool
+    requires { (length words.now ≡ WORDS) × Runs (take MODES_WORDS words.now) }
     ensures { ChangesHeld words.now result }
 {
+    let (modes, behind) = words.split_at(MODES_END);
+    let works = all_works(modes);
+    // n is the place of a pair of modes, of which they and the place of their words come
     for n in 0..CHANGES {
-        let a = MODES_END + CHANGE_WORDS * n;
-        let e = a + CHANGE_WORDS;
-        let timing = timing_at(&words[0..MODES_END], works, n);
-        if !change_holds(timing, &words[a..e]) {
+        let a = CHANGE_WORDS * n;
+        if !change_holds(timing_at(modes, &works, n), &behind[a..a + CHANGE_WORDS]) {
             return false;
         }
     }

@@ -8,10 +8,9 @@ ghost use Rattle.planner.specs.Held.{Held, HeldModes};
 use layout::MODE_WORDS;
 use layout::compare::{blank, mode_holds};
 use layout::load::channels_of;
-use planning::Answer;
 use planning::modes::plan_mode;
 use tables::homes::{at_home, housed, inhabited};
-use tables::memory::{CHANNELS_BYTES, FRONT_WORDS};
+use tables::memory::{CHANNELS_BYTES, FRONT_WORDS, InMemory};
 use tables::proper::proper_mode;
 use units::limits::{ACTORS, MODES};
 
@@ -28,12 +27,10 @@ pub(crate) fn held_mode(words: &[u64]) -> bool
     if !proper_mode(&words[0..FRONT_WORDS], &channels) {
         return false;
     }
-    let piece = plan_mode(&words[0..FRONT_WORDS], &channels, 1);
-    let answer = piece.answer;
-    if let Answer::Refused(refusal) = answer {
+    let mode = InMemory::new(&words[0..FRONT_WORDS], &channels);
+    let Ok(part) = plan_mode(&mode, 1) else {
         return false;
-    }
-    let part = piece.part;
+    };
     mode_holds(words, &channels, part)
 }
 
@@ -42,7 +39,8 @@ pub(crate) fn modes_hold(words: &[u64]) -> bool
     requires { length words.now ≡ MODE_WORDS * MODES_LIMIT }
     ensures { Decides (HeldModes words.now) result }
 {
-    let mut homes = [0usize; ACTORS];
+    let mut homes = [None; ACTORS];
+    // m is a mode's place, of which those come where its words and its front are cut; the homes go from mode to mode.
     for m in 0..MODES {
         let a = MODE_WORDS * m;
         let b = a + FRONT_WORDS;

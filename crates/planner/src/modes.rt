@@ -9,35 +9,41 @@ ghost use Rattle.planner.specs.Modes.{FreshMode, ModeComes, Fresh, ModesCome, la
 
 use layout::store::{put_mode, put_part};
 use layout::{CARRIED_WORDS, MODE_WORDS};
-use planning::Answer;
 use planning::modes::plan_mode;
-use tables::memory::{CHANNELS_BYTES, FRONT_WORDS, clear};
+use tables::memory::{CHANNELS_BYTES, FRONT_WORDS, InMemory, clear};
 use terms::place::number_of;
+use terms::refusal::Refusal;
 use units::limits::MODES;
 
 // Plans a mode, if it is listed, into its front and into the words of its channels; `number` is the mode's.
-fn plan_into(front: &mut [u64], channels: &[u8], carried: &mut [u64], number: u64) -> Answer
+fn plan_into(
+    front: &mut [u64],
+    channels: &[u8],
+    carried: &mut [u64],
+    number: u64,
+) -> Result<(), Refusal>
     requires { FreshMode (mode_in front.old channels.now) front.old channels.now carried.old }
     ensures { ModeComes (mode_in front.old channels.now) number result front.new carried.new }
 {
     if front[0] == 0 {
-        return Answer::Planned;
+        return Ok(());
     }
-    let piece = plan_mode(front, channels, number);
-    let answer = piece.answer;
-    if let Answer::Refused(refusal) = answer {
-        return Answer::Refused(refusal);
-    }
-    let part = piece.part;
+    let mode = InMemory::new(front, channels);
+    let part = plan_mode(&mode, number)?;
     put_part(part, front, carried);
-    Answer::Planned
+    Ok(())
 }
 
 // Plans all modes, up to the first that is refused.
-pub(crate) fn plan_modes(fronts: &mut [u64], channels: &[u8], carried: &mut [u64]) -> Answer
+pub(crate) fn plan_modes(
+    fronts: &mut [u64],
+    channels: &[u8],
+    carried: &mut [u64],
+) -> Result<(), Refusal>
     requires { Fresh (table_in fronts.old channels.now) fronts.old channels.now carried.old }
     ensures { ModesCome (table_in fronts.old channels.now) result fronts.new carried.new }
 {
+    // m is a mode's place, of which its number comes and the place of its part in each of the three
     for m in 0..MODES {
         let a = FRONT_WORDS * m;
         let b = a + FRONT_WORDS;
@@ -45,17 +51,14 @@ pub(crate) fn plan_modes(fronts: &mut [u64], channels: &[u8], carried: &mut [u64
         let d = c + CHANNELS_BYTES;
         let e = CARRIED_WORDS * m;
         let f = e + CARRIED_WORDS;
-        let answer = plan_into(
+        plan_into(
             &mut fronts[a..b],
             &channels[c..d],
             &mut carried[e..f],
             number_of(m),
-        );
-        if let Answer::Refused(refusal) = answer {
-            return Answer::Refused(refusal);
-        }
+        )?;
     }
-    Answer::Planned
+    Ok(())
 }
 
 // Writes the words of a mode that is planned; all 0 where it is not listed.
@@ -75,6 +78,7 @@ pub(crate) fn put_modes(fronts: &[u64], channels: &[u8], carried: &[u64], words:
     requires { (length fronts.now ≡ TABLE_WORDS) × (length channels.now ≡ TABLE_BYTES) × (length carried.now ≡ CARRIED_WORDS * MODES_LIMIT) × (length words.old ≡ MODE_WORDS * MODES_LIMIT) × ((m : ℕ) → m < MODES_LIMIT → WholeAt fronts.now channels.now carried.now m) }
     ensures { words.new ≡ joined MODES_LIMIT (laid_at fronts.now channels.now carried.now) }
 {
+    // m is a mode's place, of which the place of its part in each of the four comes
     for m in 0..MODES {
         let a = FRONT_WORDS * m;
         let b = a + FRONT_WORDS;

@@ -140,7 +140,7 @@ mode_small m p proper w =
     let pos = iteration_pos m proper x n.smallest.balances.some n.iteration in
     let few : (i : ℕ) → Active m i → (firings_of m x i).0 ≤ MOST_FIRINGS.0
     = λ i a. le_trans (le_of_dvd pos (firings_divide m proper x n.smallest.balances p.iteration n.iteration i a)) n.within in
-    let starts-small : (i : ℕ) → (s i).0 ≤ MOST_START.0 = λ i. omega (arith, starts_within m (judgement_of ds p) proper judged refl s w.least i) in
+    let starts-small : (i : ℕ) → (s i).0 ≤ MOST_START.0 = λ i. omega (arith, starts_within m (judgement_of ds p) proper judged s w.least i) in
     let firings-small : (i : ℕ) → (get_or p.firings i (firing 0)).0 ≤ MOST_FIRINGS.0
     = λ i. rw w.firings (small_actors (λ (q : Firing). q.0 ≤ MOST_FIRINGS.0) m (firings_of m x) (firing 0) zero-le few i) in
     record {

@@ -1,5 +1,5 @@
 -- What comes of a mode, as part of what comes of a table. Assumes nothing.
-use mathlib.Core.Path.{◌≡◌, subst, subst₂}
+use mathlib.Core.Path.{◌≡◌, subst₂}
 use mathlib.Core.List.{List}
 use Prim.Native.Nat.{ℕ, ◌+◌, ◌*◌, ◌/◌, ◌%◌, ◌<◌}
 use native.Mathlib.Omega.{arith}
@@ -14,8 +14,7 @@ use Rattle.change.specs.Running.{Running}
 use Rattle.change.specs.declared.Timing.{Timing}
 use Rattle.planning.specs.declared.ModePlan.{ModePlan}
 use Rattle.planning.specs.Shape.{Plan}
-use Rattle.planning.specs.declared.Answer.{Answer}
-use Rattle.planning.specs.declared.Answer.TheVariants.{Planned as IsPlanned, Refused as IsRefused}
+use Rattle.std.specs.Prelude.{Ok, Err}
 use Rattle.planning.specs.Nothing.{no_part}
 use Rattle.planning.specs.Plan.{change_at, Listed, IsPart, IsChange, Planned}
 use Rattle.planning.specs.Changes.{no_running, running_at, Between, FoundChanges, running_of}
@@ -24,9 +23,8 @@ use Rattle.planning.proofs.Running.{listed_some, listed_none}
 
 -- what comes of mode k of a table
 module _ (t : Table) (proper : ProperTable t) (k : ℕ) (l : k < MODES) where
-  pub part_comes : (a : Answer) (p : ModePlan) → AnyComes (mode_at t k) (k + 1) a p → a ≡ IsPlanned → IsPart t k p
-  part_comes a p comes e =
-      let (listed, empty) = subst (λ (a : Answer). AnyComes (mode_at t k) (k + 1) a p) e comes in
+  pub part_comes : (p : ModePlan) → AnyComes (mode_at t k) (k + 1) (Ok p) → IsPart t k p
+  part_comes p (listed, empty) =
       record { listed = λ h. listed (listed_none t k h); unlisted = λ h. empty (none h (ℕ_discrete (mode_at t k).active 0)) }
     where
       none : (Listed t k → ⊥) → Dec ((mode_at t k).active ≡ 0) → (mode_at t k).active ≡ 0
@@ -34,14 +32,8 @@ module _ (t : Table) (proper : ProperTable t) (k : ℕ) (l : k < MODES) where
       none h (no n) = absurd (h (listed_some t k proper l n))
 
   -- the modes below are planned
-  pub refusal_comes : (ps : List ModePlan) (a : Answer) (r : Refusal) (p : ModePlan) → FoundParts t ps k → AnyComes (mode_at t k) (k + 1) a p → a ≡ IsRefused r → Refusing t r
-  refusal_comes ps a r p made comes e =
-      let (some, refused) = subst (λ (a : Answer). AnyComes (mode_at t k) (k + 1) a p) e comes in (
-        k,
-        listed_some t k proper l some,
-        (λ i h listed. (get_or ps i no_part, (made.each i h).listed listed)),
-        refused,
-      )
+  pub refusal_comes : (ps : List ModePlan) (r : Refusal) → FoundParts t ps k → AnyComes (mode_at t k) (k + 1) (Err r) → Refusing t r
+  refusal_comes ps r made (some, refused) = (k, listed_some t k proper l some, (λ i h listed. (get_or ps i no_part, (made.each i h).listed listed)), refused)
 
 -- the parts of all modes, and the changes between them as they run
 module _ (t : Table) (proper : ProperTable t) (ps : List ModePlan) (cs : List Timing) where

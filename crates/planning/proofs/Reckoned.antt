@@ -11,16 +11,20 @@ use Rattle.numbers.specs.Tab.{tab, length_tab, get_or_tab}
 use Rattle.units.specs.Limits.{MODES, limit_of}
 use Rattle.units.specs.declared.Tick.{Tick}
 use Rattle.terms.specs.Refusal.{refusal_at}
-use Rattle.terms.specs.declared.refusal.Place.TheVariants.{Mode as AtMode, Actor as AtActor, Processor as AtProcessor}
+use Rattle.terms.specs.declared.refusal.Reason.TheVariants.{Late as TooLate}
+use Rattle.terms.specs.declared.refusal.Refusal.{Refusal}
+use Rattle.terms.specs.declared.refusal.Place.TheVariants.{Actor as AtActor}
 use Rattle.terms.specs.Place.{number_of}
 use Rattle.tables.specs.Shape.{Mode}
 use Rattle.tables.specs.Proper.{ProperMode}
-use Rattle.graph.specs.declared.Verdict.{Verdict}
-use Rattle.graph.specs.declared.Verdict.TheVariants.{Cyclic, Ends, Unbalanced, Overloaded, Sound}
+use Rattle.graph.specs.declared.Fault.{Fault}
+use Rattle.graph.specs.declared.Judgement.{Judgement}
+use Rattle.graph.specs.Judged.{Judged}
 use Rattle.graph.specs.Judge.{judge_of}
 use Rattle.graph.proofs.Judging.{judge_judged}
-use Rattle.schedule.specs.declared.Timing.{Timing as Lateness}
-use Rattle.schedule.specs.declared.Timing.TheVariants.{Late, OnTime}
+use Rattle.schedule.specs.declared.Late.{Late as Lateness}
+use Rattle.schedule.specs.declared.Timetable.{Timetable}
+use Rattle.schedule.specs.Scheduled.{Scheduled}
 use Rattle.schedule.specs.Model.{schedule_of}
 use Rattle.schedule.proofs.Modelled.{schedule_scheduled}
 use Rattle.change.specs.declared.Timing.{Timing}
@@ -29,65 +33,52 @@ use Rattle.change.specs.Running.{Running, mode_times, Ready}
 use Rattle.change.specs.Waits.{overlap_of, offset_from}
 use Rattle.change.proofs.Offsets.{found}
 use Rattle.planning.specs.declared.ModePlan.{ModePlan}
-use Rattle.planning.specs.declared.Answer.{Answer}
-use Rattle.planning.specs.declared.Answer.TheVariants.{Planned as IsPlanned, Refused as IsRefused}
+use Rattle.std.specs.Prelude.{Result, Ok, Err}
 use Rattle.planning.specs.Nothing.{no_timing, empty_part}
-use Rattle.planning.specs.Plan.{ModeRefused, ModePlanned}
+use Rattle.planning.specs.OneMode.{Comes}
 use Rattle.planning.specs.Changes.{running_at, AllReady, Between, ChangeOf, FoundChanges}
-use Rattle.planning.specs.Steps.{part_from, AnyComes}
+use Rattle.planning.specs.Steps.{refusal_by, part_from, AnyComes}
 use Rattle.planning.proofs.Told.{judged_refuses, scheduled_refuses, scheduled_planned}
 
--- the answer to the mode with number n, by its verdict and by its timing
-abbrev pub answer_by : ℕ → Verdict → Lateness → Answer
-answer_by n Cyclic t = IsRefused (refusal_at 6 (AtMode n))
-answer_by n Ends t = IsRefused (refusal_at 7 (AtMode n))
-answer_by n Unbalanced t = IsRefused (refusal_at 8 (AtMode n))
-answer_by n (Overloaded p) t = IsRefused (refusal_at 9 (AtProcessor n (number_of p)))
-answer_by n Sound (Late a) = IsRefused (refusal_at 10 (AtActor n (number_of a)))
-answer_by n Sound OnTime = IsPlanned
+-- what comes of the mode with number n, by what is judged of it and by its timetable
+abbrev pub timed_by : ℕ → Judgement → Result Timetable Lateness → Result ModePlan Refusal
+timed_by n j (Ok s) = Ok (part_from j s)
+timed_by n j (Err l) = Err (refusal_at TooLate (AtActor n (number_of l.actor)))
 
--- what comes of a mode with an actor, and of any mode
-abbrev pub answer_in : Mode → ℕ → Answer
-answer_in m n = answer_by n (judge_of m).verdict (schedule_of m (judge_of m)).timing
+abbrev pub answer_by : Mode → ℕ → Result Judgement Fault → Result ModePlan Refusal
+answer_by m n (Ok j) = timed_by n j (schedule_of m j)
+answer_by m n (Err f) = Err (refusal_by n f)
 
-abbrev pub part_in : Mode → ModePlan
-part_in m = part_from (judge_of m) (schedule_of m (judge_of m))
+-- of a mode with an actor, and of any mode
+abbrev pub answer_in : Mode → ℕ → Result ModePlan Refusal
+answer_in m n = answer_by m n (judge_of m)
 
-unfoldable pub answer_of : Mode → ℕ → Answer
-answer_of m n = cond (eqb m.active 0) IsPlanned (answer_in m n)
+unfoldable pub answer_of : Mode → ℕ → Result ModePlan Refusal
+answer_of m n = cond (eqb m.active 0) (Ok empty_part) (answer_in m n)
 
-unfoldable pub part_for : Mode → ModePlan
-part_for m = cond (eqb m.active 0) empty_part (part_in m)
-
--- a mode has its part, or its refusal
-abbrev pub Decided : Mode → ℕ → Answer → ModePlan → Type 0
-Decided m n IsPlanned p = ModePlanned m p
-Decided m n (IsRefused r) p = ModeRefused m n r
-
-any_decided : (m : Mode) (n : ℕ) (a : Answer) (p : ModePlan) → (m.active ≡ 0 → ⊥) → Decided m n a p → AnyComes m n a p
-any_decided m n IsPlanned p h c = ((λ l. c), (λ e. absurd (h e)))
-any_decided m n (IsRefused r) p h c = (h, c)
+any_decided : (m : Mode) (n : ℕ) (a : Result ModePlan Refusal) → (m.active ≡ 0 → ⊥) → Comes m n a → AnyComes m n a
+any_decided m n (Ok p) h c = ((λ l. c), (λ e. absurd (h e)))
+any_decided m n (Err r) h c = (h, c)
 
 module _ (m : Mode) (n : ℕ) (proper : ProperMode m) where
-  pub mode_decides : Decided m n (answer_in m n) (part_in m)
-  mode_decides = go (judge_of m).verdict (schedule_of m (judge_of m)).timing refl refl
+  pub mode_decides : Comes m n (answer_in m n)
+  mode_decides = judged (judge_of m) (judge_judged m proper)
     where
-      go : (v : Verdict) (a : Lateness) → (judge_of m).verdict ≡ v → (schedule_of m (judge_of m)).timing ≡ a
-          → Decided m n (answer_by n v a) (part_in m)
-      go Cyclic a e f = judged_refuses n Cyclic tt (judge_judged m proper) e
-      go Ends a e f = judged_refuses n Ends tt (judge_judged m proper) e
-      go Unbalanced a e f = judged_refuses n Unbalanced tt (judge_judged m proper) e
-      go (Overloaded p) a e f = judged_refuses n (Overloaded p) tt (judge_judged m proper) e
-      go Sound (Late a) e f = scheduled_refuses n (judge_judged m proper) e (schedule_scheduled m (judge_of m) proper (judge_judged m proper) e) f
-      go Sound OnTime e f = scheduled_planned (judge_judged m proper) e (schedule_scheduled m (judge_of m) proper (judge_judged m proper) e) f
+      timed : (j : Judgement) (s : Result Timetable Lateness) → Judged m (Ok j) → Scheduled m j s → Comes m n (timed_by n j s)
+      timed j (Ok s) p q = scheduled_planned p q
+      timed j (Err l) p q = scheduled_refuses n p q
 
-  pub any_mode_comes : AnyComes m n (answer_of m n) (part_for m)
-  unfolding answer_of part_for
+      judged : (a : Result Judgement Fault) → Judged m a → Comes m n (answer_by m n a)
+      judged (Ok j) p = timed j (schedule_of m j) p (schedule_scheduled m j proper p)
+      judged (Err f) p = judged_refuses n p
+
+  pub any_mode_comes : AnyComes m n (answer_of m n)
+  unfolding answer_of
   any_mode_comes = go (eqb m.active 0) refl
     where
-      go : (b : Bool) → eqb m.active 0 ≡ b → AnyComes m n (cond b IsPlanned (answer_in m n)) (cond b empty_part (part_in m))
+      go : (b : Bool) → eqb m.active 0 ≡ b → AnyComes m n (cond b (Ok empty_part) (answer_in m n))
       go true e = ((λ h. absurd (h (eqb-true _ _ e))), (λ h. refl))
-      go false e = any_decided m n (answer_in m n) (part_in m) (eqb-false _ _ e) mode_decides
+      go false e = any_decided m n (answer_in m n) (eqb-false _ _ e) mode_decides
 
 -- the change between two modes as they run, where there is one
 abbrev change_by : Running → Running → Tick → Timing

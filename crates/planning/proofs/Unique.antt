@@ -16,16 +16,19 @@ use Rattle.units.specs.declared.Tick.{Tick}
 use Rattle.units.specs.Ticks.{tick}
 use Rattle.units.specs.Firings.{firing}
 use Rattle.period.specs.Period.{period_of}
-use Rattle.terms.specs.Refusal.{OVERLOAD, LATE, refusal_at}
+use Rattle.std.specs.Prelude.{Result, Ok, Err}
+use Rattle.terms.specs.Refusal.{refusal_at}
+use Rattle.terms.specs.declared.refusal.Reason.TheVariants.{Overload, Late as TooLate}
 use Rattle.terms.specs.declared.refusal.Place.TheVariants.{Actor as AtActor, Processor as AtProcessor}
 use Rattle.terms.specs.declared.refusal.Refusal.{Refusal}
 use Rattle.terms.specs.Place.{number_of}
 use Rattle.tables.specs.Shape.{Mode, Table, mode_at}
 use Rattle.graph.specs.declared.Judgement.{Judgement}
-use Rattle.graph.specs.declared.Verdict.TheVariants.{Sound}
 use Rattle.graph.specs.Balance.{firings_of}
 use Rattle.graph.specs.Load.{Overloaded}
 use Rattle.graph.proofs.Unique.{only_unique, of_actors_law, smallest_same, lengths_same, over_again}
+use Rattle.schedule.specs.declared.Late.{Late as Lateness}
+use Rattle.schedule.specs.declared.Timetable.{Timetable}
 use Rattle.schedule.specs.Starts.{Starts, Late}
 use Rattle.schedule.specs.Scheduled.{Scheduled}
 use Rattle.schedule.proofs.Unique.{starts_unique, scheduled_unique}
@@ -33,16 +36,17 @@ use Rattle.change.specs.Running.{Running}
 use Rattle.change.specs.declared.Timing.{Timing}
 use Rattle.change.specs.Change.{Changes, changes_unique}
 use Rattle.planning.specs.declared.ModePlan.{ModePlan}
-use Rattle.planning.specs.Shape.{Plan, Outcome}
-use Rattle.planning.specs.declared.modes.Piece.{Piece}
-use Rattle.planning.specs.declared.Answer.{Answer}
-use Rattle.planning.specs.declared.Answer.TheVariants.{Refused as IsRefused, Planned as IsPlanned}
-use Rattle.planning.specs.Nothing.{no_part, no_timing, empty_plan}
+use Rattle.planning.specs.Shape.{Plan}
+use Rattle.planning.specs.Nothing.{no_part, no_timing}
 use Rattle.planning.specs.Plan.{change_at, Listed, periods_of, Balanced, ModeRefused, by_6, by_7, by_8, by_9, by_10, ModePlanned, IsPart, times_of, Leads, IsChange, Planned, Planning, refused, planned}
 use Rattle.planning.specs.OneMode.{Comes}
 use Rattle.planning.specs.Changes.{Between}
 use Rattle.planning.specs.Steps.{part_from}
 use Rattle.planning.proofs.Told.{unbalanced_not, judgement_of, timetable_of, planned_scheduled}
+
+-- the same timetable
+ok_same : {x y : Timetable} → ◌≡◌ {A = Result Timetable Lateness} (Ok x) (Ok y) → x ≡ y
+ok_same e = cc
 
 module _ {m : Mode} where
   -- a mode is reckoned in one way only
@@ -82,7 +86,7 @@ module _ {m : Mode} where
   refusal_unique (by_9 p o) (by_7 k d) = absurd (d _ _ p.ends)
   refusal_unique (by_9 p o) (by_8 k d u) = absurd (unbalanced_not u p)
   refusal_unique {n} (by_9 p o) (by_9 q w) =
-      ap (λ (i : ℕ). refusal_at OVERLOAD (AtProcessor n (number_of i)))
+      ap (λ (i : ℕ). refusal_at Overload (AtProcessor n (number_of i)))
       (le_antisymm (o.least _ (over_same q p _ w.holds)) (w.least _ (over_same p q _ o.holds)))
   refusal_unique (by_9 p o) (by_10 q f b l) = absurd (f _ (over_same p q _ o.holds))
   refusal_unique (by_10 p f b l) (by_6 c) = absurd (p.acyclic c)
@@ -90,7 +94,7 @@ module _ {m : Mode} where
   refusal_unique (by_10 p f b l) (by_8 k d u) = absurd (unbalanced_not u p)
   refusal_unique (by_10 p f b l) (by_9 q o) = absurd (f _ (over_same q p _ o.holds))
   refusal_unique {n} (by_10 p f b l) (by_10 q g c k) =
-      ap (λ (i : ℕ). refusal_at LATE (AtActor n (number_of i)))
+      ap (λ (i : ℕ). refusal_at TooLate (AtActor n (number_of i)))
       (le_antisymm (l.least _ (late_same q p c b _ k.holds)) (k.least _ (late_same p q b c _ l.holds)))
 
   pub part_unique : {p q : ModePlan} → ModePlanned m p → ModePlanned m q → p ≡ q
@@ -107,9 +111,9 @@ module _ {m : Mode} where
       ∙ sym b.firings in
       let periods : p.periods ≡ q.periods = a.periods ∙ periods_same n k ∙ sym b.periods in
       let judgement : judgement_of [] p ≡ judgement_of [] q
-      = λ i. record { verdict = Sound; source = source i; sink = sink i; iteration = iteration i; depths = []; firings = firings i; periods = periods i } in
+      = λ i. record { source = source i; sink = sink i; iteration = iteration i; depths = []; firings = firings i; periods = periods i } in
       ap₂ part_from judgement
-      (scheduled_unique m _ (subst (λ (j : Judgement). Scheduled m j (timetable_of p)) judgement (planned_scheduled a [])) (planned_scheduled b []))
+      (ok_same (scheduled_unique m _ (subst (λ (j : Judgement). Scheduled m j (Ok (timetable_of p))) judgement (planned_scheduled a [])) (planned_scheduled b [])))
 
   pub planned_refused : {p : ModePlan} {n : ℕ} {r : Refusal} → ModePlanned m p → ModeRefused m n r → ⊥
   planned_refused w (by_6 c) = w.balanced.acyclic c
@@ -119,14 +123,11 @@ module _ {m : Mode} where
   planned_refused w (by_10 q g c l) = w.prompt _ (late_same q w.balanced c (subst (λ (ps : List Tick). Starts m ps w.begin) w.periods w.least) _ l.holds)
 
 -- one thing comes of a mode
-pub comes_unique : (m : Mode) (n : ℕ) (x y : Piece) → Comes m n x.answer x.part → Comes m n y.answer y.part → x ≡ y
-comes_unique m n x y = go x.answer y.answer x.part y.part
-  where
-    go : (a b : Answer) (p q : ModePlan) → Comes m n a p → Comes m n b q → ◌≡◌ {A = Piece} (record { answer = a; part = p }) (record { answer = b; part = q })
-    go IsPlanned IsPlanned x y p q = ap (λ (p : ModePlan). record { answer = IsPlanned; part = p }) (part_unique p q)
-    go IsPlanned (IsRefused s) x y p q = absurd (planned_refused p q.0)
-    go (IsRefused r) IsPlanned x y p q = absurd (planned_refused q p.0)
-    go (IsRefused r) (IsRefused s) x y p q = ap₂ (λ (r : Refusal) (p : ModePlan). record { answer = IsRefused r; part = p }) (refusal_unique p.0 q.0) (p.1 ∙ sym q.1)
+pub comes_unique : (m : Mode) (n : ℕ) (x y : Result ModePlan Refusal) → Comes m n x → Comes m n y → x ≡ y
+comes_unique m n (Ok p) (Ok q) a b = ap Ok (part_unique a b)
+comes_unique m n (Ok p) (Err s) a b = absurd (planned_refused a b)
+comes_unique m n (Err r) (Ok q) a b = absurd (planned_refused b a)
+comes_unique m n (Err r) (Err s) a b = ap Err (refusal_unique a b)
 
 -- there is one change between two modes as they run
 pub between_unique : (old new : Running) (k l : ℕ) {c d : Timing} → Between old new k l c → Between old new k l d → c ≡ d
@@ -189,15 +190,15 @@ module _ (t : Table) where
     plan_unique = λ i. record { parts = parts_same i; changes = changes_same i }
 
   -- one outcome
-  pub planning_unique : {x y : Outcome} → Planning t x → Planning t y → x ≡ y
+  pub planning_unique : {x y : Result Plan Refusal} → Planning t x → Planning t y → x ≡ y
   planning_unique (refused {k} {r} a f p) (refused {k = l} {r = s} b g q) = go (dec_lt k l) (dec_lt l k)
     where
-      go : Dec (k < l) → Dec (l < k) → ◌≡◌ {A = Outcome} (record { answer = IsRefused r; plan = empty_plan }) (record { answer = IsRefused s; plan = empty_plan })
+      go : Dec (k < l) → Dec (l < k) → ◌≡◌ {A = Result Plan Refusal} (Err r) (Err s)
       go (yes h) d = absurd (planned_refused (g k h a).1 p)
       go (no n) (yes h) = absurd (planned_refused (f l h b).1 q)
       go (no n) (no d) =
           let e : l ≡ k = omega (arith, n, d) in
-          ap (λ (r : Refusal). record { answer = IsRefused r; plan = empty_plan }) (refusal_unique p (subst (λ (k : ℕ). ModeRefused (mode_at t k) (number_of k) s) e q))
+          ap Err (refusal_unique p (subst (λ (k : ℕ). ModeRefused (mode_at t k) (number_of k) s) e q))
   planning_unique (refused {k} a f p) (planned w) = absurd (planned_refused ((w.part k a.0).listed a) p)
   planning_unique (planned w) (refused {k} b g q) = absurd (planned_refused ((w.part k b.0).listed b) q)
-  planning_unique (planned {w} a) (planned {w = v} b) = λ i. record { answer = IsPlanned; plan = plan_unique w v a b i }
+  planning_unique (planned {w} a) (planned {w = v} b) = ap Ok (plan_unique w v a b)

@@ -14,6 +14,7 @@ use Rattle.planning.specs.Nothing.{no_timing}
 abbrev pub running_of : Mode → ModePlan → Running
 running_of m p = prepared_of m.active m.actors p.iteration p.firings p.periods p.starts (get_or p.starts p.sink (tick 0)) p.startup
 
+-- past the end of the modes that run
 abbrev pub no_running : Running
 no_running =
     record {
@@ -28,6 +29,7 @@ no_running =
       works = [];
     }
 
+-- the mode at place k of those that run
 abbrev pub running_at : List Running → ℕ → Running
 running_at rs k = get_or rs k no_running
 

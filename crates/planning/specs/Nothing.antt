@@ -1,12 +1,11 @@
 -- What stands where nothing is planned.
-use Rattle.std.specs.Prelude.{[], ◌*◌, replicate}
+use Rattle.std.specs.Prelude.{[], replicate}
 use Rattle.units.specs.Ticks.{tick}
 use Rattle.units.specs.Tokens.{token}
-use Rattle.units.specs.Limits.{MODES, ACTORS, CHANNELS}
+use Rattle.units.specs.Limits.{ACTORS, CHANNELS}
 use Rattle.units.specs.Firings.{firing}
 use Rattle.change.specs.declared.Timing.{Timing}
 use Rattle.planning.specs.declared.ModePlan.{ModePlan}
-use Rattle.planning.specs.Shape.{Plan}
 
 -- past the end of an array of parts
 abbrev pub no_part : ModePlan
@@ -30,7 +29,3 @@ empty_part =
 -- where there is no change
 abbrev pub no_timing : Timing
 no_timing = record { overlap = tick 0; offset = tick 0; worst = tick 0 }
-
--- for a table that is refused
-abbrev pub empty_plan : Plan
-empty_plan = record { parts = replicate MODES empty_part; changes = replicate (MODES * MODES) no_timing }

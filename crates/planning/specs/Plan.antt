@@ -1,5 +1,5 @@
 -- The plan of a table: what is planned of each mode and of each change, or the refusal of the lowest mode that is refused.
-use Rattle.std.specs.Prelude.{◌≡◌, List, ℕ, ◌+◌, ◌*◌, ◌≤◌, ◌<◌, length, get_or}
+use Rattle.std.specs.Prelude.{◌≡◌, List, ℕ, ◌+◌, ◌*◌, ◌≤◌, ◌<◌, length, get_or, Result, Ok, Err}
 use Rattle.numbers.specs.Extreme.{Least}
 use Rattle.units.specs.declared.Tick.{Tick}
 use Rattle.units.specs.Ticks.{tick}
@@ -7,7 +7,8 @@ use Rattle.units.specs.Firings.{firing}
 use Rattle.units.specs.Tokens.{token}
 use Rattle.units.specs.Limits.{MODES, ITERATION_LIMIT}
 use Rattle.period.specs.Period.{period_of}
-use Rattle.terms.specs.Refusal.{CYCLE, NO_ENDS, NO_BALANCE, OVERLOAD, LATE, refusal_at}
+use Rattle.terms.specs.Refusal.{refusal_at}
+use Rattle.terms.specs.declared.refusal.Reason.TheVariants.{Cycle, NoEnds as BadEnds, NoBalance, Overload, Late as TooLate}
 use Rattle.terms.specs.declared.refusal.Place.TheVariants.{Mode as AtMode, Actor as AtActor, Processor as AtProcessor}
 use Rattle.terms.specs.declared.refusal.Refusal.{Refusal}
 use Rattle.terms.specs.Place.{number_of}
@@ -22,14 +23,14 @@ use Rattle.schedule.specs.Scheduled.{Sizes, of_channels, tokens_on}
 use Rattle.change.specs.declared.Timing.{Timing}
 use Rattle.change.specs.Change.{ModeTimes, Changes}
 use Rattle.planning.specs.declared.ModePlan.{ModePlan}
-use Rattle.planning.specs.Shape.{Plan, Outcome}
-use Rattle.planning.specs.declared.Answer.TheVariants.{Planned as IsPlanned, Refused as IsRefused}
-use Rattle.planning.specs.Nothing.{no_part, empty_part, no_timing, empty_plan}
+use Rattle.planning.specs.Shape.{Plan}
+use Rattle.planning.specs.Nothing.{no_part, empty_part, no_timing}
 
--- what is planned of mode k, and of the change from mode k to mode l
+-- what is planned of mode k
 abbrev pub part_at : Plan → ℕ → ModePlan
 part_at w k = get_or w.parts k no_part
 
+-- and of the change from mode k to mode l
 abbrev pub change_at : Plan → ℕ → ℕ → Timing
 change_at w k l = get_or w.changes (MODES * k + l) no_timing
 
@@ -52,13 +53,13 @@ pub record Balanced (m : Mode) (s t : ℕ) (x : ℕ → ℕ) (h : Tick) : Type 0
 -- The mode with number n is refused: by the first of 6 to 10 that applies, with the place that it names. 9 names the lowest processor above the load limit, and 10,
 -- with b the least starts of the mode's actors, the lowest actor that starts later than the sink.
 pub data ModeRefused (m : Mode) (n : ℕ) : Refusal → Type 0 where
-  by_6 : Cyclic m → ModeRefused m n (refusal_at CYCLE (AtMode n))
-  by_7 : (Cyclic m → ⊥) → NoEnds m → ModeRefused m n (refusal_at NO_ENDS (AtMode n))
-  by_8 : {s t : ℕ} → (Cyclic m → ⊥) → Ends m s t → Unbalanced m → ModeRefused m n (refusal_at NO_BALANCE (AtMode n))
+  by_6 : Cyclic m → ModeRefused m n (refusal_at Cycle (AtMode n))
+  by_7 : (Cyclic m → ⊥) → NoEnds m → ModeRefused m n (refusal_at BadEnds (AtMode n))
+  by_8 : {s t : ℕ} → (Cyclic m → ⊥) → Ends m s t → Unbalanced m → ModeRefused m n (refusal_at NoBalance (AtMode n))
   by_9 : {s t p : ℕ} {x : ℕ → ℕ} {h : Tick} → Balanced m s t x h → Least (Overloaded m x h) p
-      → ModeRefused m n (refusal_at OVERLOAD (AtProcessor n (number_of p)))
+      → ModeRefused m n (refusal_at Overload (AtProcessor n (number_of p)))
   by_10 : {s t a : ℕ} {x : ℕ → ℕ} {h : Tick} {b : ℕ → Tick} → Balanced m s t x h → ((p : ℕ) → Overloaded m x h p → ⊥) → Starts m (periods_of m x h) b
-      → Least (Late m b t) a → ModeRefused m n (refusal_at LATE (AtActor n (number_of a)))
+      → Least (Late m b t) a → ModeRefused m n (refusal_at TooLate (AtActor n (number_of a)))
 
 -- No refusal applies to a mode, and p is what is planned of it. Of an actor that is not active, and of a channel that is not there, all is 0.
 pub record ModePlanned (m : Mode) (p : ModePlan) : Type 0 where
@@ -101,7 +102,7 @@ pub record Planned (t : Table) (w : Plan) : Type 0 where
   pub change : (k l : ℕ) → k < MODES → l < MODES → IsChange t w k l (change_at w k l)
 
 -- The lowest mode that is refused, of those that are listed, refuses the table, and there is no plan; or there is one.
-pub data Planning (t : Table) : Outcome → Type 0 where
+pub data Planning (t : Table) : Result Plan Refusal → Type 0 where
   refused : {k : ℕ} {r : Refusal} → Listed t k → ((l : ℕ) → l < k → Listed t l → (p : ModePlan) × ModePlanned (mode_at t l) p)
-      → ModeRefused (mode_at t k) (number_of k) r → Planning t (record { answer = IsRefused r; plan = empty_plan })
-  planned : {w : Plan} → Planned t w → Planning t (record { answer = IsPlanned; plan = w })
+      → ModeRefused (mode_at t k) (number_of k) r → Planning t (Err r)
+  planned : {w : Plan} → Planned t w → Planning t (Ok w)

@@ -1,20 +1,37 @@
 -- Model of the code: lists whose elements are found one by one, and the parts of a table.
-use Rattle.std.specs.Prelude.{◌≡◌, List, ℕ, ◌<◌, get_or}
+use Rattle.std.specs.Prelude.{◌≡◌, List, ℕ, ◌<◌, get_or, Result, Ok, Err}
 use Rattle.numbers.specs.Filled.{Filled}
 use Rattle.numbers.specs.Tab.{tab}
-use Rattle.units.specs.Limits.{MODES}
+use Rattle.units.specs.Limits.{MODES, PROCESSORS}
+use Rattle.terms.specs.Refusal.{refusal_at}
+use Rattle.terms.specs.declared.refusal.Reason.TheVariants.{Cycle, NoEnds, NoBalance, Overload}
+use Rattle.terms.specs.declared.refusal.Place.TheVariants.{Mode as AtMode, Processor as AtProcessor}
 use Rattle.terms.specs.Place.{number_of}
 use Rattle.terms.specs.declared.refusal.Refusal.{Refusal}
 use Rattle.tables.specs.Shape.{Mode, Table, mode_at}
 use Rattle.change.specs.Running.{Running}
+use Rattle.graph.specs.declared.Fault.{Fault}
+use Rattle.graph.specs.declared.Fault.TheVariants.{Cyclic, Ends, Unbalanced, Overloaded}
 use Rattle.graph.specs.declared.Judgement.{Judgement}
 use Rattle.schedule.specs.declared.Timetable.{Timetable}
 use Rattle.planning.specs.declared.ModePlan.{ModePlan}
-use Rattle.planning.specs.declared.Answer.{Answer}
-use Rattle.planning.specs.declared.Answer.TheVariants.{Planned as IsPlanned, Refused as IsRefused}
 use Rattle.planning.specs.Nothing.{no_part, empty_part}
 use Rattle.planning.specs.Plan.{Listed, ModeRefused, ModePlanned, IsPart}
 use Rattle.planning.specs.Changes.{running_of}
+
+-- a processor that is named is one of those that there are
+abbrev pub Numbered : Fault → Type 0
+Numbered Cyclic = Unit {0}
+Numbered Ends = Unit {0}
+Numbered Unbalanced = Unit {0}
+Numbered (Overloaded p) = p < PROCESSORS
+
+-- the refusal of the mode with number n by what is found of its graph
+abbrev pub refusal_by : ℕ → Fault → Refusal
+refusal_by n Cyclic = refusal_at Cycle (AtMode n)
+refusal_by n Ends = refusal_at NoEnds (AtMode n)
+refusal_by n Unbalanced = refusal_at NoBalance (AtMode n)
+refusal_by n (Overloaded p) = refusal_at Overload (AtProcessor n (number_of p))
 
 -- the numbers of a mode that is judged and scheduled
 abbrev pub part_from : Judgement → Timetable → ModePlan
@@ -36,9 +53,9 @@ abbrev pub FoundParts : Table → List ModePlan → ℕ → Type 0
 FoundParts t ps k = Filled MODES (IsPart t) empty_part no_part ps k
 
 -- what comes of the mode with number n, which may be unlisted: its part, or its refusal
-abbrev pub AnyComes : Mode → ℕ → Answer → ModePlan → Type 0
-AnyComes m n IsPlanned p = ((m.active ≡ 0 → ⊥) → ModePlanned m p) × (m.active ≡ 0 → p ≡ empty_part)
-AnyComes m n (IsRefused r) p = (m.active ≡ 0 → ⊥) × ModeRefused m n r
+abbrev pub AnyComes : Mode → ℕ → Result ModePlan Refusal → Type 0
+AnyComes m n (Ok p) = ((m.active ≡ 0 → ⊥) → ModePlanned m p) × (m.active ≡ 0 → p ≡ empty_part)
+AnyComes m n (Err r) = (m.active ≡ 0 → ⊥) × ModeRefused m n r
 
 -- the lowest mode that is refused, of those that are listed, refuses the table by r
 abbrev pub Refusing : Table → Refusal → Type 0

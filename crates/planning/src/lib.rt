@@ -3,11 +3,10 @@
 
 pub mod modes;
 
-use terms::refusal::Refusal;
 use units::limits::{ACTORS, CHANNELS};
 use units::{Firing, Tick, Token};
 
-// What is planned of a mode. Places of actors count from 0; all 0 where the mode is not listed.
+// What is planned of a mode. Places of actors count from 0. Its lists are those of the paper's plan, each settled by a rule of its own.
 #[derive(Clone, Copy)]
 pub struct ModePlan {
     pub source: usize,
@@ -19,11 +18,4 @@ pub struct ModePlan {
     pub starts: [Tick; ACTORS],
     pub sizes: [Token; CHANNELS],
     pub tokens: [Token; CHANNELS],
-}
-
-// Whether a mode, or a table, has a plan, or which refusal it gets.
-#[derive(Drop)]
-pub enum Answer {
-    Planned,
-    Refused(Refusal),
 }

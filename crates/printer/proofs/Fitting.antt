@@ -1,12 +1,12 @@
 -- The parts of a line, and how long a plan's text can be. Assumes nothing.
-use mathlib.Core.Path.{◌≡◌, refl, ap, ◌∙◌}
+use mathlib.Core.Path.{◌≡◌, refl, sym, ap, ◌∙◌}
 use mathlib.Core.Bool.{Bool, true, false, cond, not, ◌&&◌}
-use mathlib.Core.List.{List, [], ◌∷◌, ◌++◌, append_assoc}
+use mathlib.Core.List.{List, [], ◌∷◌, ◌++◌, map, append_assoc, append-nil}
 use Prim.Native.Nat.{ℕ, zero, suc, ◌+◌, ◌*◌, ◌-◌, ◌^◌, ◌≤◌, ◌<◌}
-use native.Mathlib.Nat.{le_trans}
 use native.Mathlib.Omega.{arith}
 use lib.Dec.{T, eqb, leb, ltb, ltb→lt}
-use lib.ListN.{length, get_or, length-append}
+use lib.ListN.{length, get_or, take, drop, length-append, take-append-drop}
+use Rattle.std.proofs.lemmas.List.{take_more}
 use borrow.Author.Tests.{leb-true, leb-false, eq-eqb}
 use Rattle.numbers.specs.Bits.{hasb}
 use Rattle.numbers.specs.Digits.{digits}
@@ -15,6 +15,7 @@ use Rattle.units.specs.Limits.{MODES, ACTORS, CHANNELS, ITERATION_LIMIT}
 use Rattle.terms.specs.Place.{number_of}
 use Rattle.terms.specs.Text.{bytes}
 use Rattle.terms.specs.declared.refusal.Printed.{Printed}
+use Rattle.terms.specs.Refusal.{five}
 use Rattle.tables.specs.Shape.{Mode, Table, channel_at, mode_at}
 use Rattle.rfc4180.specs.Decimal.{decimal}
 use Rattle.rfc4180.specs.Writing.{joined}
@@ -22,51 +23,69 @@ use Rattle.change.specs.declared.Timing.{Timing}
 use Rattle.planning.specs.declared.ModePlan.{ModePlan}
 use Rattle.planning.specs.Shape.{Plan}
 use Rattle.planning.specs.Plan.{part_at}
-use Rattle.printer.specs.declared.bytes.Five.{Five}
 use Rattle.printer.specs.Texts.{texts}
 use Rattle.printer.specs.Printed.{line_text, as_five, actor_text, channel_text, change_text, actors_text, channels_text, mode_text, from_text, changes_text, modes_text, active_of, plan_text, printed_text}
 use Rattle.printer.specs.Printed.{firings_at, period_at, start_at, size_at, tokens_at, change_in, ACTOR_LINE, CHANNEL_LINE, CHANGE_LINE, PRINTED, SmallPart, SmallTiming, Small}
 use Rattle.printer.proofs.Digits.{digits_most, digits_within}
 
--- a comma and a number; what stands in a line from its last fields on
+-- a comma and a number
 abbrev pub field_text : ℕ → List ℕ
 field_text n = 44 ∷ decimal n
+
+-- so for each of some numbers
+abbrev pub fields : List ℕ → List ℕ
+fields [] = []
+fields (n ∷ ns) = field_text n ++ fields ns
 
 abbrev pub end : List ℕ
 end = 13 ∷ 10 ∷ []
 
-abbrev pub from_4 : Five → List ℕ
-from_4 x = field_text x.4 ++ end
+joined_fields : (word ns : List ℕ) → joined (word ∷ map decimal ns) ≡ word ++ fields ns
+unfolding joined
+joined_fields word [] = sym (append-nil word)
+joined_fields word (n ∷ ns) = ap (λ (l : List ℕ). word ++ (44 ∷ l)) (joined_fields (decimal n) ns)
 
-abbrev pub from_3 : Five → List ℕ
-from_3 x = field_text x.3 ++ from_4 x
+pub line_parts : (word ns : List ℕ) → line_text word ns ≡ (word ++ fields ns) ++ end
+unfolding line_text
+line_parts word ns = ap (λ (l : List ℕ). l ++ end) (joined_fields word ns)
 
-abbrev pub from_2 : Five → List ℕ
-from_2 x = field_text x.2 ++ from_3 x
+fields_append : (a b : List ℕ) → fields (a ++ b) ≡ fields a ++ fields b
+fields_append [] b = refl
+fields_append (n ∷ a) b = ap (λ (l : List ℕ). field_text n ++ l) (fields_append a b) ∙ sym (append_assoc (field_text n) (fields a) (fields b))
 
-abbrev pub from_1 : Five → List ℕ
-from_1 x = field_text x.1 ++ from_2 x
+-- one number more, and those that are left
+pub fields_more : (word ns : List ℕ) (i : ℕ) → i < length ns → word ++ fields (take (i + 1) ns) ≡ (word ++ fields (take i ns)) ++ field_text (get_or ns i 0)
+fields_more word ns i h =
+    ap (λ (l : List ℕ). word ++ fields l) (take_more ns i 0 h)
+    ∙ ap (λ (l : List ℕ). word ++ l) (fields_append (take i ns) (get_or ns i 0 ∷ []) ∙ ap (λ (l : List ℕ). fields (take i ns) ++ l) (append-nil (field_text (get_or ns i 0))))
+    ∙ sym (append_assoc word (fields (take i ns)) (field_text (get_or ns i 0)))
 
-abbrev pub from_0 : Five → List ℕ
-from_0 x = field_text x.0 ++ from_1 x
+pub fields_left : (word ns : List ℕ) (i : ℕ) → i < length ns → word ++ fields ns ≡ (word ++ fields (take i ns)) ++ (field_text (get_or ns i 0) ++ fields (drop (i + 1) ns))
+fields_left word ns i h =
+    ap (λ (l : List ℕ). word ++ fields l) (sym (take-append-drop (i + 1) ns))
+    ∙ ap (λ (l : List ℕ). word ++ l) (fields_append (take (i + 1) ns) (drop (i + 1) ns))
+    ∙ sym (append_assoc word (fields (take (i + 1) ns)) (fields (drop (i + 1) ns)))
+    ∙ ap (λ (l : List ℕ). l ++ fields (drop (i + 1) ns)) (fields_more word ns i h)
+    ∙ append_assoc (word ++ fields (take i ns)) (field_text (get_or ns i 0)) (fields (drop (i + 1) ns))
 
-pub line_parts : (word : List ℕ) (x : Five) → line_text word x ≡ word ++ from_0 x
-unfolding line_text joined
-line_parts word x = simp append_assoc
+length_fields : (n : ℕ) (ns : List ℕ) → length (fields (n ∷ ns)) ≡ 1 + length (decimal n) + length (fields ns)
+length_fields n ns = omega (arith, length-append (field_text n) (fields ns))
 
 -- a line whose numbers have at most so many digits
-line_most : (p q r s t : ℕ) (word : List ℕ) (x : Five) → length (decimal x.0) ≤ p → length (decimal x.1) ≤ q → length (decimal x.2) ≤ r
-    → length (decimal x.3) ≤ s → length (decimal x.4) ≤ t → length (line_text word x) ≤ length word + 7 + (p + q + r + s + t)
-line_most p q r s t word x a b c d e =
+line_most : (p q r s t : ℕ) (word : List ℕ) (a b c d e : ℕ) → length (decimal a) ≤ p → length (decimal b) ≤ q → length (decimal c) ≤ r
+    → length (decimal d) ≤ s → length (decimal e) ≤ t → length (line_text word (as_five a b c d e)) ≤ length word + 7 + (p + q + r + s + t)
+line_most p q r s t word a b c d e f g h i j =
+    let ns = as_five a b c d e in
     rw line_parts
     (omega (
       arith,
-      length-append word (from_0 x),
-      length-append (decimal x.0) (from_1 x),
-      length-append (decimal x.1) (from_2 x),
-      length-append (decimal x.2) (from_3 x),
-      length-append (decimal x.3) (from_4 x),
-      length-append (decimal x.4) end,
+      length-append (word ++ fields ns) end,
+      length-append word (fields ns),
+      length_fields a (b ∷ c ∷ d ∷ e ∷ []),
+      length_fields b (c ∷ d ∷ e ∷ []),
+      length_fields c (d ∷ e ∷ []),
+      length_fields d (e ∷ []),
+      length_fields e [],
     ))
 
 -- the digits of a number that is at most another, which has no more than 20
@@ -100,14 +119,14 @@ module _ (m : ℕ) (M : Mode) (p : ModePlan) (h : m < MODES) (s : SmallPart M p)
   actor_most i l =
       cond_most (hasb M.active i) _ ACTOR_LINE
       (line_most (digits MODES) (digits ACTORS) (digits MOST_FIRINGS.0) (digits ITERATION_LIMIT.0) (digits MOST_START.0) (bytes "actor")
-      (as_five (number_of m) (number_of i) (firings_at p i).0 (period_at p i).0 (start_at p i).0)
+      (number_of m) (number_of i) (firings_at p i).0 (period_at p i).0 (start_at p i).0
       (within _ MODES tt (omega arith)) (within _ ACTORS tt (omega arith)) (within _ MOST_FIRINGS.0 tt (s.firings i l)) (within _ ITERATION_LIMIT.0 tt (s.periods i l))
       (within _ MOST_START.0 tt (s.starts i l)))
 
   channel_most : (k : ℕ) → k < M.count → length (channel_text m (channel_at M k) (size_at p k) (tokens_at p k)) ≤ CHANNEL_LINE
   channel_most k l =
       line_most (digits MODES) (digits ACTORS) (digits ACTORS) (digits MOST_SIZE.0) (digits MOST_CARRIED.0) (bytes "channel")
-      (as_five (number_of m) (number_of (channel_at M k).from) (number_of (channel_at M k).to) (size_at p k).0 (tokens_at p k).0)
+      (number_of m) (number_of (channel_at M k).from) (number_of (channel_at M k).to) (size_at p k).0 (tokens_at p k).0
       (within _ MODES tt (omega arith)) (within _ ACTORS tt (omega (arith, s.from k l))) (within _ ACTORS tt (omega (arith, s.to k l))) (within _ MOST_SIZE.0 tt (s.sizes k l))
       (within _ MOST_CARRIED.0 tt (s.tokens k l))
 
@@ -124,7 +143,7 @@ module _ (active : List ℕ) (cs : List Timing) (small : (o n : ℕ) → o < MOD
       let t = change_in cs o n in
       cond_most (not (eqb (get_or active o 0) 0) && (not (eqb (get_or active n 0) 0) && not (eqb o n))) _ CHANGE_LINE
       (line_most (digits MODES) (digits MODES) (digits MOST_START.0) (digits MOST_START.0) (digits MOST_DELAY.0) (bytes "change")
-      (as_five (number_of o) (number_of n) t.overlap.0 t.offset.0 t.worst.0)
+      (number_of o) (number_of n) t.overlap.0 t.offset.0 t.worst.0
       (within _ MODES tt (omega arith)) (within _ MODES tt (omega arith)) (within _ MOST_START.0 tt s.overlap) (within _ MOST_START.0 tt s.offset)
       (within _ MOST_DELAY.0 tt s.worst))
 
@@ -152,21 +171,19 @@ plan_fits t w s =
     in
     omega (arith, length-append (modes_text t w) (changes_text (active_of t) w.changes))
 
--- and so does the line of a refusal
-pub record Fitting (p : Printed) : Type 0 where
-  pub number : p.number < 2 ^ 64
-  pub row : p.row < 2 ^ 64
-  pub mode : p.mode < 2 ^ 64
-  pub actor : p.actor < 2 ^ 64
-  pub processor : p.processor < 2 ^ 64
+-- numbers of 64 bits, of which each has at most 20 digits
+abbrev pub Fitting : List ℕ → Type 0
+Fitting [] = Unit {0}
+Fitting (n ∷ ns) = (n < 2 ^ 64) × Fitting ns
 
--- a word has at most 20 digits
-word : {n : ℕ} → n < 2 ^ 64 → length (decimal n) ≤ 20
-word {n} h = digits_most 19 n (omega (arith, h))
+fields_long : (ns : List ℕ) → Fitting ns → length (fields ns) ≤ 21 * length ns
+fields_long [] f = omega arith
+fields_long (n ∷ ns) f = omega (arith, length_fields n ns, digits_most 19 n (omega (arith, f.0)), fields_long ns f.1)
 
-pub refusal_fits : (p : Printed) → Fitting p → length (printed_text p) ≤ PRINTED
-refusal_fits p f =
-    le_trans
-    (line_most 20 20 20 20 20 (bytes "refused") (as_five p.number p.row p.mode p.actor p.processor)
-    (word f.number) (word f.row) (word f.mode) (word f.actor) (word f.processor))
-    (omega arith)
+-- and their line
+pub line_long : (word ns : List ℕ) → Fitting ns → length (line_text word ns) ≤ length word + 21 * length ns + 2
+line_long word ns f = rw line_parts (omega (arith, length-append (word ++ fields ns) end, length-append word (fields ns), fields_long ns f))
+
+-- the line of a refusal fits the buffer
+pub refusal_fits : (p : Printed) → Fitting (five p) → length (printed_text p) ≤ PRINTED
+refusal_fits p f = omega (arith, line_long (bytes "refused") (five p) f)

@@ -1,6 +1,6 @@
 -- What belongs to no one function.
 mod Laying
 pub mod Digits
-mod Fitting
+pub mod Fitting
 mod Held
 mod Settled

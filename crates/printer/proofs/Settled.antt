@@ -7,6 +7,9 @@ use contract.Lifetimes.{Lfts}
 use denote.Triple.Clauses.{AtExit}
 use borrow.Fn.Kinds.{Dens, res_t, ended_of}
 use Rattle.printer.specs.Printed.{PRINTED, Shows}
+use Rattle.rfc4180.proofs.Laying.{laid_one}
+use Rattle.printer.proofs.bytes.line.Kinds as line_kinds
+use Rattle.printer.proofs.bytes.line.Reads as line
 use Rattle.printer.proofs.print.Kinds as print_kinds
 use Rattle.printer.proofs.print.Reads as print
 use Rattle.printer.proofs.print_refusal.Kinds as print_refusal_kinds
@@ -24,3 +27,7 @@ print_settled κs a x y s t p q = shows_one p q
 print_refusal_settled : (κs : Lfts 1) (a : Dens κs print_refusal_kinds.ps) (x y : (res_t print_refusal_kinds.r κs).Denot) (s t : AtExit (ended_of 1 print_refusal_kinds.ps print_refusal_kinds.r) κs)
     → print_refusal.Post κs a x s → print_refusal.Post κs a y t → (x ≡ y) × (s.1.0.now ≡ t.1.0.now)
 print_refusal_settled κs a x y s t p q = shows_one p q
+
+line_settled : (κs : Lfts 3) (a : Dens κs line_kinds.ps) (x y : (res_t line_kinds.r κs).Denot) (s t : AtExit (ended_of 3 line_kinds.ps line_kinds.r) κs)
+    → line.Post κs a x s → line.Post κs a y t → (x ≡ y) × (s.0.now ≡ t.0.now)
+line_settled κs a x y s t p q = laid_one p q

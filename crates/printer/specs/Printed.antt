@@ -1,6 +1,6 @@
 -- What is printed of a plan, and of a refusal: lines of a word and five numbers, parted by commas and ended by CRLF. Places count from 0 in
 -- memory, numbers from 1 in the text.
-use Rattle.std.specs.Prelude.{◌≡◌, cond, not, ◌&&◌, List, [], ◌∷◌, ◌++◌, ℕ, ◌+◌, ◌*◌, ◌-◌, ◌≤◌, ◌<◌, eqb, length, get_or, replicate}
+use Rattle.std.specs.Prelude.{◌≡◌, cond, not, ◌&&◌, List, [], ◌∷◌, ◌++◌, map, ℕ, ◌+◌, ◌*◌, ◌-◌, ◌≤◌, ◌<◌, eqb, length, get_or, replicate}
 use Rattle.numbers.specs.Bits.{hasb}
 use Rattle.numbers.specs.Digits.{digits}
 use Rattle.numbers.specs.Tab.{tab}
@@ -13,7 +13,7 @@ use Rattle.units.specs.Bounds.{MOST_FIRINGS, MOST_CARRIED, MOST_START, MOST_DELA
 use Rattle.units.specs.Limits.{MODES, ACTORS, CHANNELS, ITERATION_LIMIT}
 use Rattle.units.specs.Firings.{firing}
 use Rattle.terms.specs.Place.{number_of}
-use Rattle.terms.specs.Refusal.{printed_of}
+use Rattle.terms.specs.Refusal.{printed_of, five}
 use Rattle.terms.specs.Text.{bytes}
 use Rattle.terms.specs.declared.refusal.Printed.{Printed}
 use Rattle.terms.specs.declared.refusal.Refusal.{Refusal}
@@ -26,7 +26,6 @@ use Rattle.planning.specs.declared.ModePlan.{ModePlan}
 use Rattle.planning.specs.Shape.{Plan}
 use Rattle.planning.specs.Nothing.{no_timing}
 use Rattle.planning.specs.Plan.{part_at}
-use Rattle.printer.specs.declared.bytes.Five.{Five}
 use Rattle.printer.specs.Texts.{texts}
 
 -- what is planned of an actor at place i and of a channel at place k of a mode
@@ -49,13 +48,12 @@ tokens_at p k = get_or p.tokens k (token 0)
 abbrev pub change_in : List Timing → ℕ → ℕ → Timing
 change_in cs o n = get_or cs (MODES * o + n) no_timing
 
--- a word and five numbers as a line
-unfoldable pub line_text : List ℕ → Five → List ℕ
-line_text word x =
-    joined (word ∷ decimal x.0 ∷ decimal x.1 ∷ decimal x.2 ∷ decimal x.3 ∷ decimal x.4 ∷ []) ++ (13 ∷ 10 ∷ [])
+-- a word and some numbers as a line
+unfoldable pub line_text : List ℕ → List ℕ → List ℕ
+line_text word numbers = joined (word ∷ map decimal numbers) ++ (13 ∷ 10 ∷ [])
 
-abbrev pub as_five : ℕ → ℕ → ℕ → ℕ → ℕ → Five
-as_five a b c d e = record { 0 = a; 1 = b; 2 = c; 3 = d; 4 = e }
+abbrev pub as_five : ℕ → ℕ → ℕ → ℕ → ℕ → List ℕ
+as_five a b c d e = a ∷ b ∷ c ∷ d ∷ e ∷ []
 
 -- an actor, where it is active: mode, number, firings in an iteration, period and start
 abbrev pub actor_text : ℕ → ℕ → ℕ → Firing → Tick → Tick → List ℕ
@@ -103,7 +101,7 @@ plan_text t w = modes_text t w ++ changes_text (active_of t) w.changes
 
 -- what is printed of a refusal: one line
 abbrev pub printed_text : Printed → List ℕ
-printed_text p = line_text (bytes "refused") (as_five p.number p.row p.mode p.actor p.processor)
+printed_text p = line_text (bytes "refused") (five p)
 
 abbrev pub refusal_text : Refusal → List ℕ
 refusal_text r = printed_text (printed_of r)

@@ -1,7 +1,7 @@
 // The text that is printed of a plan, and of a refusal.
 #![tactic(auto)]
 
-mod bytes;
+pub mod bytes;
 mod lines;
 
 ghost use Rattle.std.specs.Prelude.{◌≡◌, length};
@@ -10,7 +10,6 @@ ghost use Rattle.layout.specs.Words.{WORDS};
 ghost use Rattle.layout.specs.Read.{graph_of, plan_of};
 ghost use Rattle.printer.specs.Printed.{PRINTED as PRINTED_LIMIT, Small, Shows, plan_text, refusal_text, modes_text};
 
-use crate::bytes::Five;
 use layout::MODE_WORDS;
 use terms::refusal::Refusal;
 use units::digits;
@@ -42,6 +41,7 @@ fn modes(out: &mut [u8], words: &[u64]) -> usize
     ensures { Laid out.old 0 (modes_text (graph_of words.now) (plan_of words.now)) out.new result }
 {
     let mut at: usize = 0;
+    // m is a mode's place in the words, and is printed.
     for m in 0..MODES {
         let a = MODE_WORDS * m;
         let e = a + MODE_WORDS;
@@ -67,15 +67,7 @@ pub fn print_refusal(refusal: Refusal, out: &mut [u8]) -> usize
     requires { length out.old ≡ PRINTED_LIMIT }
     ensures { Shows (refusal_text refusal) out.new result }
 {
-    let printed = refusal.printed();
-    let numbers = Five(
-        printed.number,
-        printed.row,
-        printed.mode,
-        printed.actor,
-        printed.processor,
-    );
-    let end = bytes::line(out, 0, b"refused", numbers);
+    let end = bytes::line(out, 0, b"refused", &refusal.printed().five());
     bytes::blank(out, end);
     end
 }

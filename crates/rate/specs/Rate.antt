@@ -1,8 +1,10 @@
 -- The rate rule: the tokens that an actor makes on a channel, or takes from it.
-use Rattle.std.specs.Prelude.{◌≡◌, refl, Bool, true, false, cond, List, ℕ, zero, suc, ◌+◌, ◌*◌, ◌/◌, ◌%◌, ◌≤◌, ◌<◌, min, ltb, length, get_or, take}
-use Rattle.std.proofs.Common.{sym, ap, subst, ◌∙◌, ltb-true, ltb-false, length-take-le, get_or-take, mod-eq_of_lt, div-add-mod', arith}
+use Rattle.std.specs.Prelude.{◌≡◌, refl, Bool, true, false, cond, List, ℕ, zero, suc, ◌+◌, ◌*◌, ◌/◌, ◌%◌, ◌≤◌, ◌<◌, min, ltb, length, get_or, take, sum as list_sum}
+use Rattle.std.proofs.Common.{sym, ap, subst, ◌∙◌, ltb-true, ltb-false, length-take-le, get_or-take, add-one, le_refl, le_of_lt, mod-lt, mod-eq_of_lt, div-add-mod', arith}
 use Rattle.std.specs.Int.{◌∣◌}
 use Rattle.std.proofs.Math.ListN.{get_or-eq_default}
+use Rattle.std.proofs.Math.Seq.{take_all}
+use Rattle.std.proofs.lemmas.List.Sums.{sum_by_more}
 use Rattle.std.proofs.Math.Nat.{add-mod_right, dvd_antisymm, dvd-mul_left, div-mul_cancel, mul-div_cancel', eq_of_mul-eq-mul_right}
 use Rattle.numbers.specs.Common.{IsGcd}
 use Rattle.numbers.specs.Euclid.{gcd_pos, euclid}
@@ -38,6 +40,12 @@ rate_in rates k h = rw (mod-eq_of_lt h)
 pub rate_cycle : (rates : List ℕ) (k : ℕ) → rate_of rates (k + length rates) ≡ rate_of rates k
 rate_cycle rates k = rw (add-mod_right k (length rates))
 
+-- the first rates of a list, summed
+pub tokens_first : (rates : List ℕ) (k : ℕ) → k ≤ length rates → sum (rate_of rates) k ≡ list_sum (take k rates)
+unfolding sum
+tokens_first rates zero h = refl
+tokens_first rates (suc k) h = omega (arith, tokens_first rates k (omega arith), rate_in rates k h, rw add-one at (sum_by_more (λ x. x) rates k 0 h))
+
 -- whole cycles, and the phases of the last one
 pub tokens_cycles : (rates : List ℕ) (n : ℕ) → sum (rate_of rates) n ≡ n / length rates * sum (rate_of rates) (length rates) + sum (rate_of rates) (n % length rates)
 tokens_cycles rates n =
@@ -62,6 +70,18 @@ cycle_next rates phases k h = go (ltb k phases) refl
         let l : phases ≤ k = ltb-false k phases e in
         let same : min (k + 1) phases ≡ min k phases = omega arith in
         rw same (omega arith)
+
+-- the same, by the sums of lists
+pub tokens_summed : (rates : List ℕ) (n : ℕ) → zero < length rates
+    → sum (rate_of rates) n ≡ n / length rates * list_sum rates + list_sum (take (n % length rates) rates)
+tokens_summed rates n some =
+    let whole : sum (rate_of rates) (length rates) ≡ list_sum rates = tokens_first rates (length rates) (le_refl (length rates)) ∙ ap list_sum (take_all (length rates) rates (le_refl (length rates))) in
+    omega (
+      arith,
+      tokens_cycles rates n,
+      ap (λ (x : ℕ). n / length rates * x) whole,
+      tokens_first rates (n % length rates) (le_of_lt (mod-lt n some)),
+    )
 
 -- no list, no tokens
 pub tokens_none : (rates : List ℕ) (n : ℕ) → length rates ≡ 0 → sum (rate_of rates) n ≡ 0

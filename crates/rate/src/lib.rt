@@ -3,17 +3,16 @@
 
 pub mod pace;
 
-ghost use Rattle.std.specs.Prelude.{◌≡◌, cond, ◌*◌, ◌^◌, ◌<◌, ◌≤◌, length, take};
+ghost use Rattle.std.specs.Prelude.{◌≡◌, ◌*◌, ◌^◌, ◌<◌, ◌≤◌, length, sum, take};
 ghost use Rattle.numbers.specs.Decides.{Decides};
-ghost use Rattle.numbers.specs.Sum.{sum};
 ghost use Rattle.units.specs.Limits.{PHASES, MOST_RATE};
 ghost use Rattle.units.specs.Firings.{firing};
 ghost use Rattle.units.specs.Tokens.{token, times_tokens};
-ghost use Rattle.rate.specs.Rate.{rate_of, tokens_of, cycles_of, Meets};
+ghost use Rattle.rate.specs.Rate.{tokens_of, cycles_of, Meets};
 
 use numbers::common::gcd;
 use units::limits::PHASES;
-use units::{Firing, Token};
+use units::{Count, Firing, Token};
 
 // The firings of so many phases, one each; the firing that comes after them has this number.
 pub fn phases(n: usize) -> Firing
@@ -37,16 +36,12 @@ pub fn moved(rate: u8) -> Token
     Token::of(rate as u64)
 }
 
-// The sum of the first k rates of a list.
-fn first(rates: &[u8], k: usize) -> u64
-    requires { (k ≤ length rates.now) × (length rates.now ≤ PHASES) }
-    ensures { (result ≡ sum (rate_of rates.now) k) × (result ≤ k * MOST_RATE.0) }
+// The sum of some rates.
+fn total(rates: &[u8]) -> u64
+    requires { length rates.now ≤ PHASES }
+    ensures { result ≡ sum rates.now }
 {
-    let mut sum: u64 = 0;
-    for i in 0..k {
-        sum = sum + rates[i] as u64;
-    }
-    sum
+    rates.iter().map(|rate| *rate as u64).sum()
 }
 
 // The tokens of the first n firings of an actor with this list of rates, which is used cyclically.
@@ -61,14 +56,7 @@ pub fn tokens(rates: &[u8], n: Firing) -> Token
     let firings = n.firings();
     let cycles = firings / phases as u64;
     let rest = firings % phases as u64;
-    Token::of(cycles * first(rates, phases) + first(rates, rest as usize))
-}
-
-// The rate of a phase that counts, and nothing of another.
-fn counted(counts: bool, rate: u8) -> u64
-    ensures { (result ≡ cond counts rate 0) × (result ≤ MOST_RATE.0) }
-{
-    if counts { rate as u64 } else { 0 }
+    Token::of(cycles * total(rates) + total(&rates[..rest as usize]))
 }
 
 // The tokens of a cycle of an actor with so many phases and these rates.
@@ -76,14 +64,10 @@ pub fn cycle_tokens(rates: [u8; PHASES], phases: usize) -> Token
     requires { (phases ≤ PHASES) × (length rates ≡ PHASES) }
     ensures { result ≡ tokens_of (take phases rates) (firing phases) }
 {
-    let mut sum: u64 = 0;
-    for k in 0..PHASES {
-        sum = sum + counted(k < phases, rates[k]);
-    }
-    Token::of(sum)
+    Token::of(total(&rates[..phases]))
 }
 
-// Whether so many cycles of a producer make what so many cycles of a consumer take.
+// Whether so many cycles of a producer make what so many cycles of a consumer take. By their numbers: a count has no `==` (units).
 pub fn even(makers: u64, made: Token, takers: u64, taken: Token) -> bool
     requires { ((times_tokens makers made).0 < 2 ^ 64) × ((times_tokens takers taken).0 < 2 ^ 64) }
     ensures { Decides (times_tokens makers made ≡ times_tokens takers taken) result }

@@ -2,8 +2,8 @@
 ghost use Rattle.std.specs.Prelude.{◌≡◌, ◌^◌, ◌<◌};
 ghost use Rattle.rate.specs.Pace.{IsStep, lasting_of, moving_of};
 
-use numbers::common::gcd32;
-use units::{Tick, Token};
+use numbers::common::gcd;
+use units::{Count, Tick, Token};
 
 // A step of a channel: its tokens, and the ticks that they last.
 #[derive(Clone, Copy)]
@@ -14,11 +14,11 @@ pub struct Step {
 
 // The step of a channel whose producer makes so many tokens in a cycle of so many ticks, and whose consumer takes so many in its cycle.
 pub fn step_of(made: Token, cycle: Tick, taken: Token) -> Step
-    requires { (0 < made.0) × (0 < taken.0) × (made.0 < 2 ^ 32) × (taken.0 < 2 ^ 32) }
+    requires { (0 < made.0) × (0 < taken.0) }
     ensures { IsStep made cycle taken result }
 {
     let tokens = made.tokens();
-    let common = gcd32(tokens as u32, taken.tokens() as u32) as u64;
+    let common = gcd(tokens, taken.tokens());
     Step {
         tokens: Token::of(common),
         ticks: Tick::of(cycle.ticks() / (tokens / common)),
@@ -31,9 +31,7 @@ impl Step {
         requires { (0 < self.tokens.0) × ((lasting_of self tokens).0 < 2 ^ 64) }
         ensures { result ≡ lasting_of self tokens }
     {
-        let each = self.tokens;
-        let ticks = self.ticks;
-        ticks.times(tokens.tokens() / each.tokens())
+        self.ticks.times(tokens.tokens() / self.tokens.tokens())
     }
 
     // The tokens of the whole steps in so many ticks.
@@ -41,8 +39,6 @@ impl Step {
         requires { (0 < self.ticks.0) × ((moving_of self ticks).0 < 2 ^ 64) }
         ensures { result ≡ moving_of self ticks }
     {
-        let each = self.ticks;
-        let tokens = self.tokens;
-        tokens.times(ticks.per(each))
+        self.tokens.times(ticks.per(self.ticks))
     }
 }

@@ -6,11 +6,13 @@ use mathlib.Core.Logic.{⊎_elim}
 use Prim.Native.Nat.{ℕ}
 use native.Mathlib.Omega.{arith}
 use lib.ListN.{length}
+use Rattle.std.specs.Prelude.{Ok, Err}
 use Rattle.rfc4180.specs.Grammar.{plain, FirstRecord, last, as_is, over}
+use Rattle.terms.specs.Refusal.{refusal_at}
 use Rattle.terms.specs.declared.refusal.Place.TheVariants.{Row as AtRow}
+use Rattle.terms.specs.declared.refusal.Reason.{Reason}
 use Rattle.tables.specs.Shape.{Table}
 use Rattle.tables.specs.Proper.{ProperTable}
-use Rattle.reader.specs.declared.Answer.TheVariants.{Read, Refused}
 use Rattle.reader.specs.Rows.{Row, contents, FirstOf, by_3, by_4, by_5, NoneOf, RowRefused, Passes}
 use Rattle.reader.specs.Told.{Outcome, rows, refused, FirstRow, Refused1, FrontRefused, by_1, by_2, by_row, After, done, stopped, passed, Of, wrong_length, right_length, table_of, Reading, reading_of, Told}
 use Rattle.reader.specs.Writing.{rows_of, written}
@@ -24,7 +26,7 @@ use Rattle.reader.proofs.Short.{written_short, written_some}
 
 -- a text reads as this table
 abbrev pub ReadsAs : List ℕ → Table → Type 0
-ReadsAs text t = Told text (record { answer = Read; table = t })
+ReadsAs text t = Told text (record { answer = Ok tt; table = t })
 
 -- rows that were read make a proper table
 of_proper : {text : List ℕ} {rs : List Row} → Of text (rows rs) → ProperTable (table_of rs)
@@ -33,11 +35,11 @@ of_proper (right_length some few a) = proper (after_passed a start) (after_some 
 pub reads_proper : (text : List ℕ) (t : Table) → ReadsAs text t → ProperTable t
 reads_proper text t (rows rs, of, e) = subst ProperTable (sym (ap (λ (r : Reading). r.table) e)) (of_proper of)
 reads_proper text t (refused n r, of, e) =
-    let f : Read ≡ Refused (record { number = n; place = AtRow r }) = ap (λ (x : Reading). x.answer) e in
+    let f : Ok tt ≡ Err (refusal_at n (AtRow r)) = ap (λ (x : Reading). x.answer) e in
     let z : ◌≡◌ {A = ℕ} 0 1 = cc in absurd (omega arith)
 
 -- the first of three refusals is one only, and where none applies there is no first
-pub first_of_one : {third fourth fifth : Type 0} {n k : ℕ} → FirstOf third fourth fifth n → FirstOf third fourth fifth k → n ≡ k
+pub first_of_one : {third fourth fifth : Type 0} {n k : Reason} → FirstOf third fourth fifth n → FirstOf third fourth fifth k → n ≡ k
 first_of_one (by_3 x) (by_3 y) = refl
 first_of_one (by_3 x) (by_4 a y) = absurd (a x)
 first_of_one (by_3 x) (by_5 a b y) = absurd (a x)
@@ -48,7 +50,7 @@ first_of_one (by_5 a b x) (by_3 y) = absurd (a y)
 first_of_one (by_5 a b x) (by_4 c y) = absurd (b y)
 first_of_one (by_5 a b x) (by_5 c d y) = refl
 
-pub first_or_none : {third fourth fifth : Type 0} {n : ℕ} → NoneOf third fourth fifth → FirstOf third fourth fifth n → ⊥
+pub first_or_none : {third fourth fifth : Type 0} {n : Reason} → NoneOf third fourth fifth → FirstOf third fourth fifth n → ⊥
 first_or_none q (by_3 x) = q.0 x
 first_or_none q (by_4 a x) = q.1 x
 first_or_none q (by_5 a b x) = q.2 x
@@ -61,7 +63,7 @@ pub written_reads : (t : Table) → ProperTable t → ReadsAs (written t) t
 written_reads t p = (
   rows (rows_of t),
   read_again (rows_of t) (rows_passed t p) (written_some t p) (written_short t p),
-  ap (λ (x : Table). record { answer = Read; table = x }) (sym (rows_table t p)),
+  ap (λ (x : Table). record { answer = Ok tt; table = x }) (sym (rows_table t p)),
 )
 
 -- one row stands at the front of a text, and none where it is empty
@@ -76,12 +78,12 @@ no_first_row {r = r} f =
     omega (arith, ap length (first_one f.stands none).1, row_fields r)
 
 -- what stands there is refused in one way, and then it is no row that passes
-front_passes : {rs : List Row} {t u : List ℕ} {r : Row} {n : ℕ} → FirstRow t r u → Passes rs r → FrontRefused rs t n → ⊥
+front_passes : {rs : List Row} {t u : List ℕ} {r : Row} {n : Reason} → FirstRow t r u → Passes rs r → FrontRefused rs t n → ⊥
 front_passes f q (by_1 x) = readable f x
 front_passes {u = u} {r} f q (by_2 x) = x.no_row r u f
 front_passes {rs} {n = n} f q (by_row g x) = first_or_none q (subst (λ (s : Row). RowRefused rs s n) (first_row_one g f).0 x)
 
-front_refused_one : {rs : List Row} {t : List ℕ} {n k : ℕ} → FrontRefused rs t n → FrontRefused rs t k → n ≡ k
+front_refused_one : {rs : List Row} {t : List ℕ} {n k : Reason} → FrontRefused rs t n → FrontRefused rs t k → n ≡ k
 front_refused_one (by_1 x) (by_1 y) = refl
 front_refused_one (by_1 x) (by_2 y) = absurd (x y.fields y.contents y.rest y.stands y.six)
 front_refused_one (by_1 x) (by_row g y) = absurd (readable g x)

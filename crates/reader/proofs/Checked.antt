@@ -7,18 +7,22 @@ use Prim.Native.Nat.{ℕ, ◌≤◌}
 use native.Mathlib.Omega.{arith}
 use native.Mathlib.Decide.{ℕ_discrete}
 use lib.ListN.{length, get_or}
+use Rattle.std.proofs.lemmas.Option.{same_Some}
+use Rattle.std.specs.Prelude.{Option, Some, None, Result}
 use Rattle.numbers.specs.Every.{Every}
 use Rattle.numbers.specs.Padded.{padded, every_padded}
 use Rattle.numbers.specs.Bits.{Has}
 use Rattle.units.specs.Limits.{CHANNELS, PHASES}
 use Rattle.terms.specs.Place.{place_of}
+use Rattle.terms.specs.declared.refusal.Reason.{Reason}
 use Rattle.tables.specs.declared.Actor.{Actor}
 use Rattle.tables.specs.Shape.{Mode, actor_at, mode_at}
-use Rattle.reader.specs.declared.line.Line.{Line}
+use Rattle.reader.specs.declared.line.Entry.{Entry}
+use Rattle.reader.specs.declared.line.Entry.TheVariants.{Actor as AnActor, Channel as AChannel}
 use Rattle.reader.specs.Rows.{Row, ActorRow, ChannelRow, actor, channel, InRange, ActorInRange, ChannelInRange, Lists, ListedActor, Unfit, Refused3, Refused4, Refused5, by_3, by_4, by_5}
 use Rattle.reader.specs.Told.{table_of}
 use Rattle.reader.specs.Lines.{line_of}
-use Rattle.reader.specs.Checks.{Number, refused as first, passes, Checked}
+use Rattle.reader.specs.Checks.{FirstOrNone, refused as first, passes, ActorChecked, ChannelChecked}
 use Rattle.reader.proofs.Lookup.{Passed, holds, lists_range, listed_is, listed_stable}
 use Rattle.reader.proofs.Homes.{homes_of, home_at, home_is, home_from}
 
@@ -36,13 +40,13 @@ module _ {rs : List Row} (p : Passed rs) where
     pub actor_third : Refused3 rs (actor r) ↔ Has (mode_so_far rs r.mode).active (place_of r.actor)
     actor_third = Iff.symm ((holds p).has r.mode r.actor i.mode i.actor)
 
-    pub actor_fourth : Refused4 rs (actor r) ↔ ((home_at rs r.actor ≡ 0 → ⊥) × (home_at rs r.actor ≡ r.is.processor → ⊥))
+    pub actor_fourth : Refused4 rs (actor r) ↔ ((h : ℕ) × (home_at rs r.actor ≡ Some h) × (h ≡ r.is.processor → ⊥))
     actor_fourth = (
-      (λ (e, l, q, n). (λ z. omega (arith, is e l q, (lists_range p l).processor), λ z. n (sym (is e l q) ∙ z))),
-      (λ (z, n). let (e, l, q) = home_from p r.actor i.actor z in (e, l, q, λ k. n (is e l q ∙ k))),
+      (λ (e, l, q, n). (e.is.processor, is e l q, n)),
+      (λ (h, z, n). let (e, l, q) = home_from p r.actor i.actor z in (e, l, q, λ k. n (same_Some h e.is.processor (sym z ∙ is e l q) ∙ k))),
     )
       where
-        is : (e : ActorRow) → Lists rs e → e.actor ≡ r.actor → home_at rs r.actor ≡ e.is.processor
+        is : (e : ActorRow) → Lists rs e → e.actor ≡ r.actor → home_at rs r.actor ≡ Some e.is.processor
         is e l q = rw (← q) (home_is p l)
 
   -- the rates of an actor that is listed
@@ -92,20 +96,21 @@ module _ {rs : List Row} (p : Passed rs) where
           ⊎_elim (λ u. inl ((unfit r.production from).1 u)) (λ u. inr ((unfit r.consumption to).1 u)),
         )
 
--- how a line is checked in a mode, by its actor's processor
-abbrev pub CheckedIn : Mode → ℕ → Line → ℕ → Type 0
-CheckedIn M home l n = Checked M.active M.count home (actor_at M l.actor) (actor_at M l.to) l n
+-- how a row is checked in a mode, by the actors' processors
+abbrev pub CheckedIn : Mode → List (Option ℕ) → Entry → Result (Unit {0}) Reason → Type 0
+CheckedIn M homes (AnActor a is) = ActorChecked M.active (get_or homes a None) a is
+CheckedIn M homes (AChannel l) = ChannelChecked M.active M.count (actor_at M l.from).phases (actor_at M l.to).phases l
 
--- the same number for the same refusals
-number_same : {a b c d e f : Type 0} {n : ℕ} → d ↔ a → e ↔ b → ((d → ⊥) → f ↔ c) → Number a b c n → Number d e f n
-number_same p q r (first (by_3 x)) = first (by_3 (p.1 x))
-number_same p q r (first (by_4 x y)) = first (by_4 (λ z. x (p.0 z)) (q.1 y))
-number_same p q r (first (by_5 x y z)) = first (by_5 (λ v. x (p.0 v)) (λ v. y (q.0 v)) ((r (λ v. x (p.0 v))).1 z))
-number_same p q r (passes w) = passes ((λ v. w.0 (p.0 v)), (λ v. w.1 (q.0 v)), (λ v. w.2 ((r (λ u. w.0 (p.0 u))).0 v)))
+-- the same answer for the same refusals
+same_first : {a b c d e f : Type 0} {x : Result (Unit {0}) Reason} → d ↔ a → e ↔ b → ((d → ⊥) → f ↔ c) → FirstOrNone a b c x → FirstOrNone d e f x
+same_first p q r (first (by_3 x)) = first (by_3 (p.1 x))
+same_first p q r (first (by_4 x y)) = first (by_4 (λ z. x (p.0 z)) (q.1 y))
+same_first p q r (first (by_5 x y z)) = first (by_5 (λ v. x (p.0 v)) (λ v. y (q.0 v)) ((r (λ v. x (p.0 v))).1 z))
+same_first p q r (passes w) = passes ((λ v. w.0 (p.0 v)), (λ v. w.1 (q.0 v)), (λ v. w.2 ((r (λ u. w.0 (p.0 u))).0 v)))
 
--- the number of the refusal of a row, checked after rows that passed, is that of the rules
-pub checked_row : {rs : List Row} (p : Passed rs) (r : Row) (i : InRange r) (place n : ℕ)
-    → CheckedIn (mode_at (table_of rs) (line_of r place).mode) (get_or (homes_of rs) (line_of r place).actor 0) (line_of r place) n
-    → Number (Refused3 rs r) (Refused4 rs r) (Refused5 rs r) n
-checked_row p (actor r) i place n c = number_same (actor_third p r i) (actor_fourth p r i) (λ x. ((λ z. z), (λ z. z))) c
-checked_row p (channel r) i place n c = number_same (channel_third p r i) ((λ z. z), (λ z. z)) (λ x. channel_fifth p r i x) c
+-- the refusal of a row, checked after rows that passed, is that of the rules
+pub checked_row : {rs : List Row} (p : Passed rs) (r : Row) (i : InRange r) (place : ℕ) (x : Result (Unit {0}) Reason)
+    → CheckedIn (mode_at (table_of rs) (line_of r place).mode) (homes_of rs) (line_of r place).entry x
+    → FirstOrNone (Refused3 rs r) (Refused4 rs r) (Refused5 rs r) x
+checked_row p (actor r) i place x c = same_first (actor_third p r i) (actor_fourth p r i) (λ x. ((λ z. z), (λ z. z))) c
+checked_row p (channel r) i place x c = same_first (channel_third p r i) ((λ z. z), (λ z. z)) (λ x. channel_fifth p r i x) c

@@ -5,6 +5,7 @@ use mathlib.Core.Logic.{◌⊎◌, inl, inr}
 use Prim.Native.Nat.{ℕ, ◌+◌, ◌-◌, ◌≤◌, ◌<◌}
 use native.Mathlib.Omega.{arith}
 use lib.ListN.{length, set, drop, replicate, length-append, length-take}
+use Rattle.std.specs.Prelude.{Some, None}
 use Rattle.numbers.specs.Every.{Every, every_append, every_behind}
 use Rattle.numbers.specs.Padded.{padded, padded_none, padded_more, padded_full}
 use Rattle.rfc4180.specs.Decimal.{spaced}
@@ -13,7 +14,7 @@ use Rattle.rfc4180.proofs.Decimals.{writes_some}
 use Rattle.rfc4180.proofs.Lists.{item_last, item_then, item_missing}
 use Rattle.units.specs.Limits.{MOST_RATE, PHASES}
 use Rattle.reader.specs.Rows.{Rates}
-use Rattle.reader.specs.Lines.{no_rates, RatesOf, listed, none}
+use Rattle.reader.specs.Lines.{RatesOf, listed, none}
 
 -- the rates before a place are read: the text lists them and others exactly when the text from the place on lists the others
 pub record Listing (s values : List ℕ) (count at : ℕ) : Type 0 where
@@ -63,10 +64,10 @@ module _ {s values : List ℕ} {count at : ℕ} (g : Listing s values count at) 
     many_more = omega (arith, g.many, length-append g.read (x ∷ []))
 
     -- the last one
-    pub listing_all : Listed s at MOST_RATE.0 x (length s) → RatesOf s (record { count = count + 1; values = after })
+    pub listing_all : Listed s at MOST_RATE.0 x (length s) → RatesOf s (Some (record { count = count + 1; values = after }))
     listing_all l =
-        subst (λ (n : ℕ). RatesOf s (record { count = n; values = after })) (sym many_more)
-        (subst (λ (v : List ℕ). RatesOf s (record { count = length (g.read ++ (x ∷ [])); values = v })) (sym kept_more)
+        subst (λ (n : ℕ). RatesOf s (Some (record { count = n; values = after }))) (sym many_more)
+        (subst (λ (v : List ℕ). RatesOf s (Some (record { count = length (g.read ++ (x ∷ [])); values = v }))) (sym kept_more)
         (listed (g.read ++ (x ∷ [])) (omega (arith, many_more), every_append (λ n. n ≤ MOST_RATE.0) g.read (x ∷ []) g.small (l.small, tt)) (sym (g.whole x [] (item_last l)))))
 
     -- one before others
@@ -92,7 +93,7 @@ module _ {s values : List ℕ} {count at : ℕ} (g : Listing s values count at) 
             further (z ∷ us) e w = (z, us, e ∙ ap (λ (n : ℕ). g.read ++ (n ∷ z ∷ us)) w.0 ∙ sym (append_assoc g.read (x ∷ []) (z ∷ us)), w.2)
 
   -- no rate follows
-  pub listing_bad : ((n end : ℕ) → Listed s at MOST_RATE.0 n end → ⊥) → RatesOf s no_rates
+  pub listing_bad : ((n end : ℕ) → Listed s at MOST_RATE.0 n end → ⊥) → RatesOf s None
   listing_bad f = none (λ ys r e. go ys r (g.rest ys r.0 (sym e)))
     where
       go : (ys : List ℕ) → Rates ys → (x : ℕ) × (xs : List ℕ) × (ys ≡ g.read ++ (x ∷ xs)) × (drop at s ≡ spaced (x ∷ xs)) → ⊥

@@ -16,13 +16,14 @@ use Rattle.rfc4180.specs.Grammar.{Cell, plain, raw, FirstRecord, last, more, as_
 use Rattle.rfc4180.specs.Records.{KEPT, spans, no_span, RecordAt, found, none}
 use Rattle.rfc4180.proofs.Grammar.{first_one}
 use Rattle.rfc4180.proofs.Records.{contents_many, span_bytes, length_spans, content_is}
+use Rattle.std.specs.Prelude.{Option, Some, None, Ok, Err, ok_or}
 use Rattle.units.specs.Limits.{FIELDS}
-use Rattle.reader.specs.declared.line.Kind.{Kind}
-use Rattle.reader.specs.declared.line.Kind.TheVariants.{Actor, Channel, NoRow, NoRecord}
+use Rattle.terms.specs.Text.{bytes}
+use Rattle.terms.specs.declared.refusal.Reason.TheVariants.{BadField}
 use Rattle.reader.specs.declared.line.Line.{Line}
 use Rattle.reader.specs.Rows.{Row, actor, channel, word, contents, InRange}
 use Rattle.reader.specs.Told.{FirstRow, Refused1, Refused2}
-use Rattle.reader.specs.Lines.{InText, bytes_of, raws_of, kind_of, KindOf, RowOf, row, none as no_row_of, line_of, no_line, LineAt, no_row}
+use Rattle.reader.specs.Lines.{InText, bytes_of, raws_of, RowOf, row, none as no_row_of, line_of, LineAt, no_row}
 use Rattle.reader.proofs.Written.{Plain, contents_plain}
 
 -- the end of a text is a record of one field
@@ -31,10 +32,9 @@ only_one f =
     let none : FirstRecord [] (plain [] ∷ []) ([] ∷ []) [] = last (as_is tt) over in
     ap length (first_one f none).1
 
--- no record of six fields was found
-pub no_six : {text : List ℕ} {at : ℕ} (f : Found) → RecordAt text at f → (f.count ≡ FIELDS → ⊥) → Refused1 (drop at text)
-no_six f (found l p) n gs ds u q six = n (ap length (first_one p q).0 ∙ sym (contents_many q) ∙ six)
-no_six {text} {at} f (none h) n gs ds u q six = go (leb at (length text)) refl
+-- no record was found, or one of more or fewer fields than six
+pub no_record_at : {text : List ℕ} {at : ℕ} → RecordAt text at None → Refused1 (drop at text)
+no_record_at {text} {at} (none h) gs ds u q six = go (leb at (length text)) refl
   where
     go : (x : Bool) → leb at (length text) ≡ x → ⊥
     go true e = h (leb-true at (length text) e) gs ds u q
@@ -42,6 +42,9 @@ no_six {text} {at} f (none h) n gs ds u q six = go (leb at (length text)) refl
         let beyond : length text ≤ at = omega (arith, leb-false at (length text) e) in
         let past : drop at text ≡ [] = drop_of_length-le text beyond in
         omega (arith, six, only_one (subst (λ (t : List ℕ). FirstRecord t gs ds u) past q))
+
+pub not_six : {text : List ℕ} {at : ℕ} {f : Found} → RecordAt text at (Some f) → (f.count ≡ FIELDS → ⊥) → Refused1 (drop at text)
+not_six (found l p) n gs ds u q six = n (ap length (first_one p q).0 ∙ sym (contents_many q) ∙ six)
 
 -- a field without a quote is its own content
 abbrev NoQuote : List ℕ → Type 0
@@ -91,8 +94,8 @@ pub record Six (text : List ℕ) (at : ℕ) (f : Found) : Type 0 where
   pub within : Every (InText text) f.fields
   pub raws : map raw fields ≡ bytes_of text (get_or f.fields 0 no_span) ∷ raws_of text f.fields
 
-pub six_found : {text : List ℕ} {at : ℕ} (f : Found) → RecordAt text at f → f.count ≡ FIELDS → Six text at f
-six_found {text} {at} f (found {fs} {cs} {rest} l p) e =
+pub six_found : {text : List ℕ} {at : ℕ} {f : Found} → RecordAt text at (Some f) → f.count ≡ FIELDS → Six text at f
+six_found {text} {at} (found {fs} {cs} {rest} l p) e =
     record {
       fields = fs;
       holds = cs;
@@ -113,31 +116,6 @@ six_found {text} {at} f (found {fs} {cs} {rest} l p) e =
 
     bytes_at : (k : ℕ) → k < 6 → raw (get_or fs k (plain [])) ≡ bytes_of text (get_or (padded KEPT no_span (spans at fs)) k no_span)
     bytes_at k h = sym (ap (bytes_of text) (get_or_padded KEPT no_span (spans at fs) k (omega arith)) ∙ (span_bytes text at l p k (omega (arith, h, e))).bytes)
-six_found f (none h) e = absurd (omega (arith, e))
-
--- a word begins rows of one kind
-never : {A : Type 0} → ◌≡◌ {A = ℕ} 0 1 → A
-never e = absurd (omega arith)
-
-word_kind : (r : Row) (s : List ℕ) (k : Kind) → KindOf s k → word r ≡ s → kind_of r ≡ k
-word_kind (actor r) s Actor h e = refl
-word_kind (actor r) s Channel h e = absurd (omega (arith, ap length (e ∙ h)))
-word_kind (actor r) s NoRow h e = absurd (h.0 (sym e))
-word_kind (actor r) s NoRecord h e = absurd h
-word_kind (channel r) s Actor h e = absurd (omega (arith, ap length (e ∙ h)))
-word_kind (channel r) s Channel h e = refl
-word_kind (channel r) s NoRow h e = absurd (h.1 (sym e))
-word_kind (channel r) s NoRecord h e = absurd h
-
-kind_word : (r : Row) (s : List ℕ) (k : Kind) → KindOf s k → kind_of r ≡ k → word r ≡ s
-kind_word (actor r) s Actor h e = sym h
-kind_word (actor r) s Channel h e = never (cc)
-kind_word (actor r) s NoRow h e = never (cc)
-kind_word (actor r) s NoRecord h e = absurd h
-kind_word (channel r) s Actor h e = never (cc)
-kind_word (channel r) s Channel h e = sym h
-kind_word (channel r) s NoRow h e = never (cc)
-kind_word (channel r) s NoRecord h e = absurd h
 
 -- a record of six fields is the row whose contents are its bytes, or none
 module _ {text : List ℕ} {at : ℕ} {f : Found} (w : Six text at f) where
@@ -159,17 +137,18 @@ module _ {text : List ℕ} {at : ℕ} {f : Found} (w : Six text at f) where
             n r g.in_range (e ∙ sym (contents_raw w.stands (subst (Every NoQuote) e (no_quotes (contents r) (contents_plain r)))));
       }
 
-  module _ (k : Kind) (h : KindOf (bytes_of text (get_or f.fields 0 no_span)) k) where
-    pub line_row : {l : Line} → RowOf k (raws_of text f.fields) f.next l → LineAt text at l
-    line_row (row r e i b) =
-        subst (λ (n : ℕ). LineAt text at (line_of r n)) (sym w.next_is)
-        (LineAt.row (is_row r i (ap₂ (λ (x : List ℕ) (xs : List (List ℕ)). x ∷ xs) (kind_word r _ k h e) b ∙ sym w.raws)))
-    line_row (no_row_of n) =
-        no_row (not_row (λ r i e. let c = e ∙ w.raws in n r (word_kind r _ k h (ap (λ (l : List (List ℕ)). get_or l 0 []) c)) i (ap (drop 1) c)))
+  pub line_row : {begin : List ℕ} {o : Option Line} → bytes_of text (get_or f.fields 0 no_span) ≡ begin → RowOf begin (raws_of text f.fields) f.next o
+      → LineAt text at (ok_or o BadField)
+  line_row h (row r e i b) =
+      subst (λ (n : ℕ). LineAt text at (Ok (line_of r n))) (sym w.next_is)
+      (LineAt.row (is_row r i (ap₂ (λ (x : List ℕ) (xs : List (List ℕ)). x ∷ xs) (e ∙ sym h) b ∙ sym w.raws)))
+  line_row h (no_row_of n) =
+      no_row (not_row (λ r i e. let c = e ∙ w.raws in n r (ap (λ (l : List (List ℕ)). get_or l 0 []) c ∙ h) i (ap (drop 1) c)))
 
-  pub line_none : KindOf (bytes_of text (get_or f.fields 0 no_span)) NoRow → LineAt text at (no_line NoRow)
-  line_none h = no_row (not_row (λ r i e. other r (word_kind r _ NoRow h (ap (λ (l : List (List ℕ)). get_or l 0 []) (e ∙ w.raws)))))
+  pub line_none : (bytes_of text (get_or f.fields 0 no_span) ≡ bytes "actor" → ⊥) → (bytes_of text (get_or f.fields 0 no_span) ≡ bytes "channel" → ⊥)
+      → LineAt text at (Err BadField)
+  line_none a c = no_row (not_row (λ r i e. other r (ap (λ (l : List (List ℕ)). get_or l 0 []) (e ∙ w.raws))))
     where
-      other : (r : Row) → kind_of r ≡ NoRow → ⊥
-      other (actor r) e = never (cc)
-      other (channel r) e = never (cc)
+      other : (r : Row) → word r ≡ bytes_of text (get_or f.fields 0 no_span) → ⊥
+      other (actor r) e = a (sym e)
+      other (channel r) e = c (sym e)

@@ -17,6 +17,8 @@ use Rattle.rfc4180.specs.Writing.{joined}
 use Rattle.units.specs.Limits.{MOST_BYTES, FIELDS}
 use Rattle.units.specs.Ticks.{tick}
 use Rattle.terms.specs.Text.{bytes}
+use Rattle.terms.specs.declared.refusal.Reason.{Reason}
+use Rattle.terms.specs.declared.refusal.Reason.TheVariants.{Unreadable, BadField, Mislisted, Elsewhere, BadRates}
 use Rattle.reader.specs.Rows.{Row, ActorRow, actor, channel, contents, ListedActor, Passes, channels, RowRefused, by_3, by_4, by_5}
 use Rattle.reader.specs.Told.{Outcome, rows, refused, FirstRow, FrontRefused, by_1, by_2, by_row, done, stopped, passed, Of, wrong_length, right_length}
 use Rattle.reader.specs.Writing.{line_text, text_of}
@@ -91,38 +93,38 @@ record Example : Type 0 where
 -- the rows stand latest first
 abbrev examples : List Example
 examples =
-    record { text = ""; told = refused 1 0 }
+    record { text = ""; told = refused Unreadable 0 }
     ∷ record { text = "actor,1,1,1,7,1"; told = rows (an_actor 1 1 1 7 1 ∷ []) }
     ∷ record { text = "\"actor\",\"1\",\"1\",\"1\",\"7\",\"1\"\r\n"; told = rows (an_actor 1 1 1 7 1 ∷ []) }
     ∷ record { text = "actor,1,1,1,7,1\r\nactor,2,1,1,8,1\r\n"; told = rows (an_actor 2 1 1 8 1 ∷ an_actor 1 1 1 7 1 ∷ []) }
-    ∷ record { text = "\"act\r\nor\",1,1,1,7,1\r\nx,1,1,1,1,1\r\n"; told = refused 2 1 }
-    ∷ record { text = "\r\n"; told = refused 1 1 }
-    ∷ record { text = "actor,1,1,1,7\r\n"; told = refused 1 1 }
-    ∷ record { text = "actor,1,1,1,07,1\r\n"; told = refused 2 1 }
-    ∷ record { text = "actor,1,1,1,7,1\r\nactor,1,1,1,7,2\r\n"; told = refused 3 2 }
-    ∷ record { text = "actor,1,1,1,7,1\r\nactor,2,1,1,7,2\r\n"; told = refused 4 2 }
-    ∷ record { text = "actor,1,1,1,7,1\r\nchannel,1,1,2,1,1\r\nactor,1,2,1,7,2\r\n"; told = refused 3 2 }
-    ∷ record { text = "actor,1,1,2,1,1\r\nactor,1,2,1,1,2\r\nchannel,1,1,2,1,1\r\n"; told = refused 5 3 }
-    ∷ record { text = "actor,1,1,2,1,1\r\nactor,1,2,1,1,2\r\nchannel,1,1,2,0 0,1\r\n"; told = refused 5 3 }
+    ∷ record { text = "\"act\r\nor\",1,1,1,7,1\r\nx,1,1,1,1,1\r\n"; told = refused BadField 1 }
+    ∷ record { text = "\r\n"; told = refused Unreadable 1 }
+    ∷ record { text = "actor,1,1,1,7\r\n"; told = refused Unreadable 1 }
+    ∷ record { text = "actor,1,1,1,07,1\r\n"; told = refused BadField 1 }
+    ∷ record { text = "actor,1,1,1,7,1\r\nactor,1,1,1,7,2\r\n"; told = refused Mislisted 2 }
+    ∷ record { text = "actor,1,1,1,7,1\r\nactor,2,1,1,7,2\r\n"; told = refused Elsewhere 2 }
+    ∷ record { text = "actor,1,1,1,7,1\r\nchannel,1,1,2,1,1\r\nactor,1,2,1,7,2\r\n"; told = refused Mislisted 2 }
+    ∷ record { text = "actor,1,1,2,1,1\r\nactor,1,2,1,1,2\r\nchannel,1,1,2,1,1\r\n"; told = refused BadRates 3 }
+    ∷ record { text = "actor,1,1,2,1,1\r\nactor,1,2,1,1,2\r\nchannel,1,1,2,0 0,1\r\n"; told = refused BadRates 3 }
     ∷ []
 
 -- rows that pass, and then what is refused
-refused_at_law : (rs : List Row) (t : List ℕ) {n : ℕ} → T (passedb rs) → T (ltb 0 (length t)) → T (leb (length (text_of rs ++ t)) MOST_BYTES) → FrontRefused rs t n
+refused_at_law : (rs : List Row) (t : List ℕ) {n : Reason} → T (passedb rs) → T (ltb 0 (length t)) → T (leb (length (text_of rs ++ t)) MOST_BYTES) → FrontRefused rs t n
     → Of (text_of rs ++ t) (refused n (suc (length rs)))
 refused_at_law rs t p some few x =
     let long : 0 < length (text_of rs ++ t) = omega (arith, length-append (text_of rs) t, ltb→lt 0 (length t) some) in
     right_length long (leb→le (length (text_of rs ++ t)) MOST_BYTES few) (read_on (passed_true rs p) t (stopped (ltb→lt 0 (length t) some) x))
 
 -- by the row at its front
-row_at : {rs : List Row} {n : ℕ} (r : Row) (t : List ℕ) → T (rangeb r) → RowRefused rs r n → FrontRefused rs (line_text r ++ t) n
+row_at : {rs : List Row} {n : Reason} (r : Row) (t : List ℕ) → T (rangeb r) → RowRefused rs r n → FrontRefused rs (line_text r ++ t) n
 row_at r t i x = by_row (line_first r t (range_true r i)) x
 
 -- by the number of its fields; and by their contents, which are those of no row
-count_at : {rs : List Row} {t rest : List ℕ} {fs : List Cell} {cs : List (List ℕ)} → FirstRecord t fs cs rest → (length cs ≡ FIELDS → ⊥) → FrontRefused rs t 1
+count_at : {rs : List Row} {t rest : List ℕ} {fs : List Cell} {cs : List (List ℕ)} → FirstRecord t fs cs rest → (length cs ≡ FIELDS → ⊥) → FrontRefused rs t Unreadable
 count_at f n = by_1 (λ gs ds left g six. n (ap length (first_one f g).1 ∙ six))
 
 contents_at : {rs : List Row} {t rest : List ℕ} {fs : List Cell} {cs : List (List ℕ)} → FirstRecord t fs cs rest → length cs ≡ FIELDS
-    → ((r : Row) → contents r ≡ cs → ⊥) → FrontRefused rs t 2
+    → ((r : Row) → contents r ≡ cs → ⊥) → FrontRefused rs t BadField
 contents_at {rest = rest} {fs} {cs} f six n =
     by_2 (record { fields = fs; contents = cs; rest = rest; stands = f; six = six; no_row = λ r u g. n r (first_one g.stands f).1 })
 

@@ -5,7 +5,8 @@ use Rattle.numbers.specs.Every.{Every}
 use Rattle.rfc4180.specs.Decimal.{decimal, spaced}
 use Rattle.rfc4180.specs.Numbers.{Between}
 use Rattle.units.specs.Limits.{MODES, ACTORS, CHANNELS, PHASES, MOST_WCET, MOST_RATE, PROCESSORS}
-use Rattle.terms.specs.Refusal.{MISLISTED, ELSEWHERE, BAD_RATES}
+use Rattle.terms.specs.declared.refusal.Reason.{Reason}
+use Rattle.terms.specs.declared.refusal.Reason.TheVariants.{Mislisted, Elsewhere, BadRates}
 use Rattle.terms.specs.Text.{bytes}
 use Rattle.tables.specs.declared.Actor.{Actor}
 
@@ -102,17 +103,17 @@ Refused5 earlier (actor r) = ⊥
 Refused5 earlier (channel r) = Unfit earlier r.mode r.from r.production ⊎ Unfit earlier r.mode r.to r.consumption
 
 -- the first of three refusals that applies, 3 to 5
-pub data FirstOf (third fourth fifth : Type 0) : ℕ → Type 0 where
-  by_3 : third → FirstOf third fourth fifth MISLISTED
-  by_4 : (third → ⊥) → fourth → FirstOf third fourth fifth ELSEWHERE
-  by_5 : (third → ⊥) → (fourth → ⊥) → fifth → FirstOf third fourth fifth BAD_RATES
+pub data FirstOf (third fourth fifth : Type 0) : Reason → Type 0 where
+  by_3 : third → FirstOf third fourth fifth Mislisted
+  by_4 : (third → ⊥) → fourth → FirstOf third fourth fifth Elsewhere
+  by_5 : (third → ⊥) → (fourth → ⊥) → fifth → FirstOf third fourth fifth BadRates
 
 -- none of three applies
 abbrev pub NoneOf : Type 0 → Type 0 → Type 0 → Type 0
 NoneOf third fourth fifth = (third → ⊥) × (fourth → ⊥) × (fifth → ⊥)
 
--- a row is refused with this number
-abbrev pub RowRefused : List Row → Row → ℕ → Type 0
+-- a row is refused for this reason
+abbrev pub RowRefused : List Row → Row → Reason → Type 0
 RowRefused earlier r = FirstOf (Refused3 earlier r) (Refused4 earlier r) (Refused5 earlier r)
 
 -- or it passes

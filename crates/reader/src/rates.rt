@@ -1,45 +1,34 @@
 // Lists of rates.
-ghost use Rattle.std.specs.Prelude.{◌≡◌};
-ghost use Rattle.reader.specs.Lines.{no_rates, RatesOf};
+ghost use Rattle.reader.specs.Lines.{RatesOf};
 
-use rfc4180::decimal::{Item, item_at};
+use rfc4180::decimal::item_at;
 use units::limits::{MOST_RATE, PHASES};
 
-// How many rates a list has, and the first of them, with 0 behind the last. No rate where there is no list.
+// How many rates a list has, and the first of them, with 0 behind the last. Memory is fixed: the count tells a list that is longer than what is kept.
 #[derive(Clone, Copy)]
 pub struct Rates {
     pub count: usize,
     pub values: [u8; PHASES],
 }
 
-pub(crate) fn none() -> Rates
-    ensures { result ≡ no_rates }
-{
-    Rates {
-        count: 0,
-        values: [0; PHASES],
-    }
-}
-
 // The rates that a text lists.
-pub fn rates_of(s: &[u8]) -> Rates
+pub fn rates_of(s: &[u8]) -> Option<Rates>
     ensures { RatesOf s.now result }
 {
     let most = MOST_RATE.tokens();
     let mut values = [0u8; PHASES];
     let mut count: usize = 0;
     let mut at: usize = 0;
+    // The walk goes by places, since rates differ in length, and counts the rates beside them.
     loop {
-        let Item::Is { value, end } = item_at(s, at, most) else {
-            return none();
-        };
+        let rate = item_at(s, at, most)?;
         if count < PHASES {
-            values[count] = value as u8;
+            values[count] = rate.value as u8;
         }
         count += 1;
-        if end == s.len() {
-            return Rates { count, values };
+        if rate.end == s.len() {
+            return Some(Rates { count, values });
         }
-        at = end + 1;
+        at = rate.end + 1;
     }
 }

@@ -3,9 +3,10 @@ use mathlib.Core.Path.{◌≡◌, refl, ap, ap₂, sym, subst, ◌∙◌}
 use mathlib.Core.List.{List, [], ◌∷◌, ◌++◌, append_assoc}
 use Prim.Native.Nat.{ℕ}
 use native.Mathlib.Omega.{arith}
+use Rattle.std.specs.Prelude.{Option, Some, None}
 use Rattle.numbers.specs.Every.{Every}
 use Rattle.rfc4180.specs.declared.bytes.Class.{Class}
-use Rattle.rfc4180.specs.declared.bytes.Class.TheVariants.{Text, Comma, Quote, Return, Feed, Other, Nothing}
+use Rattle.rfc4180.specs.declared.bytes.Class.TheVariants.{Text, Comma, Quote, Return, Feed, Other}
 use Rattle.rfc4180.specs.Bytes.{class_of, class_at}
 use Rattle.rfc4180.specs.Grammar.{Cell, plain, quoted, cell_text, Inner, Inside, nothing, byte, pair, Means, as_is, between, RecordEnd, crlf, over, FirstRecord, last, more}
 use Rattle.rfc4180.specs.Records.{Whole}
@@ -15,25 +16,22 @@ pub no_inner : {b : ℕ} → b ≡ 34 → Inner (class_of b) → ⊥
 unfolding class_of
 no_inner e i = subst (λ (x : ℕ). Inner (class_of x)) e i
 
-pub quote_front : (w : List ℕ) → class_at (34 ∷ w) ≡ Quote
+pub quote_front : (w : List ℕ) → class_at (34 ∷ w) ≡ Some Quote
 unfolding class_of
 quote_front w = refl
 
-no_text : {x : Class} → x ≡ Quote → x ≡ Text → ⊥
-no_text e f = let z : ◌≡◌ {A = ℕ} 0 1 = cc in omega arith
-
 -- a run of text that no text follows
 plain_one : (t u s v : List ℕ) → Every (λ b. class_of b ≡ Text) t → Every (λ b. class_of b ≡ Text) s
-    → (class_at u ≡ Text → ⊥) → (class_at v ≡ Text → ⊥) → t ++ u ≡ s ++ v → (t ≡ s) × (u ≡ v)
+    → (class_at u ≡ Some Text → ⊥) → (class_at v ≡ Some Text → ⊥) → t ++ u ≡ s ++ v → (t ≡ s) × (u ≡ v)
 plain_one [] u [] v h k m n e = (refl, e)
-plain_one [] u (a ∷ s) v h k m n e = absurd (m (ap class_at e ∙ k.0))
-plain_one (b ∷ t) u [] v h k m n e = absurd (n (sym (ap class_at e) ∙ h.0))
+plain_one [] u (a ∷ s) v h k m n e = absurd (m (ap class_at e ∙ ap Some k.0))
+plain_one (b ∷ t) u [] v h k m n e = absurd (n (sym (ap class_at e) ∙ ap Some h.0))
 plain_one (b ∷ t) u (a ∷ s) v h k m n e =
     let r = plain_one t u s v h.1 k.1 m n (cc) in
     let p : b ≡ a = cc in (ap₂ (λ (x : ℕ) (l : List ℕ). x ∷ l) p r.0, r.1)
 
 -- what stands between quotes, up to a quote that no other follows
-inside_one : {t c s d : List ℕ} → Inside t c → Inside s d → (u v : List ℕ) → (class_at u ≡ Quote → ⊥) → (class_at v ≡ Quote → ⊥)
+inside_one : {t c s d : List ℕ} → Inside t c → Inside s d → (u v : List ℕ) → (class_at u ≡ Some Quote → ⊥) → (class_at v ≡ Some Quote → ⊥)
     → t ++ (34 ∷ u) ≡ s ++ (34 ∷ v) → (t ≡ s) × (c ≡ d) × (u ≡ v)
 inside_one nothing nothing u v m n e = (refl, refl, cc)
 inside_one nothing (byte i q) u v m n e = absurd (no_inner (cc) i)
@@ -66,18 +64,18 @@ cell_one (between {t} p) (between {t = s} q) u v m n e =
     let r = inside_one p q u v m n (cc f) in (ap quoted r.0, r.1, r.2)
 
 -- what may follow a field
-abbrev Ender : Class → Type 0
-Ender Text = ⊥
-Ender Comma = Unit {0}
-Ender Quote = ⊥
-Ender Return = Unit {0}
-Ender Feed = ⊥
-Ender Other = ⊥
-Ender Nothing = Unit {0}
+abbrev Ender : Option Class → Type 0
+Ender None = Unit {0}
+Ender (Some Text) = ⊥
+Ender (Some Comma) = Unit {0}
+Ender (Some Quote) = ⊥
+Ender (Some Return) = Unit {0}
+Ender (Some Feed) = ⊥
+Ender (Some Other) = ⊥
 
-no_quote : (t u : List ℕ) → Every (λ b. class_of b ≡ Text) t → Ender (class_at u) → class_at (t ++ u) ≡ Quote → ⊥
+no_quote : (t u : List ℕ) → Every (λ b. class_of b ≡ Text) t → Ender (class_at u) → class_at (t ++ u) ≡ Some Quote → ⊥
 no_quote [] u h e q = subst Ender q e
-no_quote (b ∷ t) u h e q = no_text q h.0
+no_quote (b ∷ t) u h e q = cc
 
 whole : {f : Cell} {c : List ℕ} → Means f c → (u : List ℕ) → Ender (class_at u) → Whole f u
 whole (as_is {t} h) u e = (λ q. subst Ender q e, no_quote t u h e)

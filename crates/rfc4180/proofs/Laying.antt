@@ -1,11 +1,10 @@
 -- Laws of bytes laid over a buffer. Assumes nothing.
-use mathlib.Core.Path.{◌≡◌, refl, sym, ap, subst, ◌∙◌}
+use mathlib.Core.Path.{◌≡◌, refl, sym, ap, ◌∙◌}
 use mathlib.Core.List.{List, [], ◌∷◌, ◌++◌}
-use Prim.Native.Nat.{ℕ, suc, ◌+◌, ◌<◌}
-use native.Mathlib.Numerals.{add-one}
+use Prim.Native.Nat.{ℕ, suc, ◌+◌}
 use native.Mathlib.Omega.{arith}
-use lib.ListN.{length, get_or, set, take, length-append}
-use lib.Seq.{sets, length-sets, take-suc}
+use lib.ListN.{length, set, length-append}
+use lib.Seq.{sets, length-sets}
 use Rattle.rfc4180.specs.Laid.{Room, Laid}
 
 sets_append : (l : List ℕ) (i : ℕ) (s t : List ℕ) → sets l i (s ++ t) ≡ sets (sets l i s) (i + length s) t
@@ -37,13 +36,6 @@ room_first {l} {s} t r = record { fits = omega (arith, r.fits, length-append s t
 -- the room that is left for it
 pub room_then : {l k s t : List ℕ} {at mid : ℕ} → Room l at (s ++ t) → Laid l at s k mid → Room k mid t
 room_then {l} {k} {s} {t} r a = record { fits = omega (arith, r.fits, a.ends, laid_length a, length-append s t) }
-
--- one byte more of a text that is copied
-pub laid_copied : {l k : List ℕ} {at : ℕ} (s : List ℕ) (i : ℕ) → i < length s → Laid l at (take i s) k (at + i)
-    → Laid l at (take (i + 1) s) (set k (at + i) (get_or s i 0)) (at + (i + 1))
-laid_copied {l} {k} {at} s i h a =
-    let e : at + i + 1 ≡ at + (i + 1) = omega arith in
-    rw (add-one, take-suc s i 0 h) (subst (λ (n : ℕ). Laid l at (take i s ++ (get_or s i 0 ∷ [])) (set k (at + i) (get_or s i 0)) n) (e ∙ ap (λ (n : ℕ). at + n) (add-one i)) (laid_then a (laid_byte k (at + i) (get_or s i 0))))
 
 -- a buffer with a text laid over it is one only
 pub laid_one : {l k j s : List ℕ} {at x y : ℕ} → Laid l at s k x → Laid l at s j y → (x ≡ y) × (k ≡ j)

@@ -9,8 +9,8 @@ use lib.ListN.{length, get_or, take, drop, take-append-drop, length-drop, drop_o
 use lib.Seq.{drop-drop, drop-cons, take-suc, get_or-drop, length-take-le, take_all, drop-length}
 use borrow.Author.Tests.{ltb-true, ltb-false}
 use Rattle.numbers.specs.Every.{Every}
-use Rattle.rfc4180.specs.declared.decimal.Digit.{Digit}
-use Rattle.rfc4180.specs.declared.decimal.Digit.TheVariants.{Of, Other}
+use Rattle.std.specs.Prelude.{Some, None}
+use Rattle.std.proofs.lemmas.List.{take_rest}
 use Rattle.rfc4180.specs.Decimal.{Writes, IsDigit}
 use Rattle.rfc4180.specs.Numbers.{Between, Parted, Listed}
 use Rattle.rfc4180.specs.Digits.{DigitOf, DigitIs, DigitAt, NoDigit, Stands, RunTo}
@@ -74,6 +74,13 @@ run_one {s} {at} {end} {stop} r q =
       omega (arith, ap length e, part_length s at end r.0.inside, part_length s at stop q.0.inside, r.0.begins, q.0.begins),
     )
 
+-- a byte behind a place of a text is a digit
+pub digit_behind : (s : List ℕ) (start i : ℕ) {d : ℕ} → i < length (take (length s - start) (drop start s))
+    → DigitOf (get_or (take (length s - start) (drop start s)) i 0) (Some d) → DigitIs s (start + i) d
+digit_behind s start i l h =
+    let k : i < length (drop start s) = rw take_rest at l in
+    record { inside = omega (arith, k, length-drop start s); small = h.0; is = rw (take_rest, get_or-drop) at h.1 }
+
 -- a digit stands at a place
 module _ {s : List ℕ} {end d : ℕ} (g : DigitIs s end d) where
   digit_is : IsDigit (get_or s end 0)
@@ -127,32 +134,24 @@ module _ {s : List ℕ} {end d : ℕ} (g : DigitIs s end d) where
       omega (arith, run_least r 0 (omega arith) (rw (part_none s end) tt) (rw (part_none s end)))
 
 -- no digit stands at a place
-pub no_digit : (s : List ℕ) (i : ℕ) → DigitAt s i Other → NoDigit (drop i s)
+pub no_digit : (s : List ℕ) (i : ℕ) → DigitAt s i None → NoDigit (drop i s)
 no_digit s i g = go (ltb i (length s)) refl
   where
     go : (x : Bool) → ltb i (length s) ≡ x → NoDigit (drop i s)
     go true e = let l : i < length s = ltb-true i (length s) e in rw (drop-cons s i 0 l) (g l)
     go false e = rw (drop_of_length-le s (ltb-false i (length s) e)) tt
 
-pub run_none : {s : List ℕ} {at most n stop : ℕ} → DigitAt s at Other → RunTo s at most n stop → ⊥
+pub run_none : {s : List ℕ} {at most n stop : ℕ} → DigitAt s at None → RunTo s at most n stop → ⊥
 run_none {s} {at} {stop} g r = go (part s at stop) (writes_some r.0.writes) (writes_digits r.0.writes) (rw (parts s at stop r.0.begins) (no_digit s at g))
   where
     go : (p : List ℕ) → 0 < length p → Every IsDigit p → NoDigit (p ++ drop stop s) → ⊥
     go [] l h f = omega arith
     go (b ∷ p) l h f = f h.0
 
--- the digit that the byte at a place is
-pub digit_at : (s : List ℕ) (i : ℕ) (x : Digit) → i < length s → DigitOf (get_or s i 0) x → DigitAt s i x
-digit_at s i (Of d) l h = record { inside = l; small = h.0; is = h.1 }
-digit_at s i Other l h = λ k. h
-
 -- a text that is a number
 module _ {s : List ℕ} {n most : ℕ} where
   whole_run : Writes n s → n ≤ most → RunTo s 0 most n (length s)
   whole_run w h = (record { begins = omega arith; inside = omega arith; small = h; writes = rw (whole_part s (length s) (omega arith)) w }, rw (drop-length s) tt)
-
-  pub number_none : (least : ℕ) → ((n end : ℕ) → RunTo s 0 most n end → ⊥) → Between least most n → Writes n s → ⊥
-  number_none least f b w = f n (length s) (whole_run w b.1)
 
   pub number_is : {v end least : ℕ} → RunTo s 0 most v end → Between least most n → Writes n s → (v ≡ n) × (end ≡ length s)
   number_is r b w = run_one r (whole_run w b.1)

@@ -7,10 +7,8 @@ use denote.Triple.Clauses.{AtExit}
 use borrow.Fn.Kinds.{Dens, res_t, ended_of}
 use Rattle.numbers.proofs.Settles.{Settles}
 use Rattle.numbers.specs.Decides.{decides_unique}
-use Rattle.rfc4180.specs.declared.decimal.Number.{Number}
-use Rattle.rfc4180.specs.declared.decimal.Number.TheVariants.{Is, Bad}
+use Rattle.std.specs.Prelude.{Option, Some, None}
 use Rattle.rfc4180.specs.declared.decimal.Item.{Item}
-use Rattle.rfc4180.specs.declared.decimal.Item.TheVariants.{Is as ItemIs, Bad as NoItem}
 use Rattle.rfc4180.specs.declared.record.Found.{Found}
 use Rattle.rfc4180.specs.Records.{RecordAt, found, none}
 use Rattle.rfc4180.specs.Numbers.{NumberOf, ItemAt}
@@ -35,23 +33,24 @@ use Rattle.rfc4180.proofs.writing.field.Reads as field
 use Rattle.rfc4180.proofs.writing.crlf.Kinds as crlf_kinds
 use Rattle.rfc4180.proofs.writing.crlf.Reads as crlf
 
-found_one : {text : List ℕ} {at : ℕ} {x y : Found} → RecordAt text at x → RecordAt text at y → x ≡ y
+found_one : {text : List ℕ} {at : ℕ} {x y : Option Found} → RecordAt text at x → RecordAt text at y → x ≡ y
 found_one (found l p) (found k q) = let e = first_one p q in rw (e.0, e.2)
 found_one (found {fs} {cs} {rest} l p) (none h) = absurd (h l fs cs rest p)
 found_one (none h) (found {fs} {cs} {rest} l p) = absurd (h l fs cs rest p)
 found_one (none h) (none k) = refl
 
-number_unique : (s : List ℕ) (least most : ℕ) (x y : Number) → NumberOf s least most x → NumberOf s least most y → x ≡ y
-number_unique s least most (Is n) (Is m) p q = ap Is (number_one p.1 q.1)
-number_unique s least most (Is n) Bad p q = absurd (q n p.0 p.1)
-number_unique s least most Bad (Is m) p q = absurd (p m q.0 q.1)
-number_unique s least most Bad Bad p q = refl
+number_unique : (s : List ℕ) (least most : ℕ) (x y : Option ℕ) → NumberOf s least most x → NumberOf s least most y → x ≡ y
+number_unique s least most (Some n) (Some m) p q = ap Some (number_one p.1 q.1)
+number_unique s least most (Some n) None p q = absurd (q n p.0 p.1)
+number_unique s least most None (Some m) p q = absurd (p m q.0 q.1)
+number_unique s least most None None p q = refl
 
-item_unique : (s : List ℕ) (at most : ℕ) (x y : Item) → ItemAt s at most x → ItemAt s at most y → x ≡ y
-item_unique s at most (ItemIs n end) (ItemIs m stop) p q = let w = run_one (item_run p) (item_run q) in ap₂ ItemIs w.0 w.1
-item_unique s at most (ItemIs n end) NoItem p q = absurd (q n end p)
-item_unique s at most NoItem (ItemIs m stop) p q = absurd (p m stop q)
-item_unique s at most NoItem NoItem p q = refl
+item_unique : (s : List ℕ) (at most : ℕ) (x y : Option Item) → ItemAt s at most x → ItemAt s at most y → x ≡ y
+item_unique s at most (Some i) (Some j) p q =
+    let w = run_one (item_run p) (item_run q) in ap₂ (λ (n end : ℕ). Some (record { value = n; end = end })) w.0 w.1
+item_unique s at most (Some i) None p q = absurd (q i.value i.end p)
+item_unique s at most None (Some j) p q = absurd (p j.value j.end q)
+item_unique s at most None None p q = refl
 
 same_settled : Settles 2 same_kinds.ps same_kinds.r same.Post
 same_settled κs a x y s t p q = decides_unique x y p q

@@ -1,7 +1,7 @@
 -- The bytes of a text, by what they are to RFC 4180.
-use Rattle.std.specs.Prelude.{cond, List, [], ◌∷◌, ℕ, eqb, ltb}
+use Rattle.std.specs.Prelude.{cond, List, [], ◌∷◌, ℕ, eqb, ltb, Option, Some, None}
 use Rattle.rfc4180.specs.declared.bytes.Class.{Class}
-use Rattle.rfc4180.specs.declared.bytes.Class.TheVariants.{Text, Comma, Quote, Return, Feed, Other, Nothing}
+use Rattle.rfc4180.specs.declared.bytes.Class.TheVariants.{Text, Comma, Quote, Return, Feed, Other}
 
 -- the comma, the quote, CR and LF; every other byte from 32 to 126 is text; what is left stands outside the grammar
 unfoldable pub class_of : ℕ → Class
@@ -14,7 +14,7 @@ class_of b =
     (cond (ltb b 127) Text
     Other)))))
 
--- the class of what stands at the front of a text
-abbrev pub class_at : List ℕ → Class
-class_at [] = Nothing
-class_at (b ∷ t) = class_of b
+-- the class of the byte at the front of a text, where the text is not over
+abbrev pub class_at : List ℕ → Option Class
+class_at [] = None
+class_at (b ∷ t) = Some (class_of b)

@@ -1,15 +1,12 @@
 -- What the readers of digits find.
-use Rattle.std.specs.Prelude.{◌≡◌, List, [], ◌∷◌, ℕ, ◌+◌, ◌-◌, ◌≤◌, ◌<◌, length, get_or, take, drop}
-use Rattle.rfc4180.specs.declared.decimal.Digit.{Digit}
-use Rattle.rfc4180.specs.declared.decimal.Digit.TheVariants.{Of, Other}
-use Rattle.rfc4180.specs.declared.decimal.Run.{Run}
-use Rattle.rfc4180.specs.declared.decimal.Run.TheVariants.{To, Bad}
+use Rattle.std.specs.Prelude.{◌≡◌, List, [], ◌∷◌, ℕ, ◌+◌, ◌-◌, ◌≤◌, ◌<◌, length, get_or, take, drop, Option, Some, None}
+use Rattle.rfc4180.specs.declared.decimal.Item.{Item}
 use Rattle.rfc4180.specs.Decimal.{Writes, IsDigit}
 
 -- the digit that a byte is
-abbrev pub DigitOf : ℕ → Digit → Type 0
-DigitOf b (Of d) = (d < 10) × (b ≡ 48 + d)
-DigitOf b Other = IsDigit b → ⊥
+abbrev pub DigitOf : ℕ → Option ℕ → Type 0
+DigitOf b (Some d) = (d < 10) × (b ≡ 48 + d)
+DigitOf b None = IsDigit b → ⊥
 
 -- a digit stands at a place of a text
 pub record DigitIs (s : List ℕ) (i d : ℕ) : Type 0 where
@@ -18,9 +15,9 @@ pub record DigitIs (s : List ℕ) (i d : ℕ) : Type 0 where
   pub is : get_or s i 0 ≡ 48 + d
 
 -- the digit at a place of a text
-abbrev pub DigitAt : List ℕ → ℕ → Digit → Type 0
-DigitAt s i (Of d) = DigitIs s i d
-DigitAt s i Other = i < length s → IsDigit (get_or s i 0) → ⊥
+abbrev pub DigitAt : List ℕ → ℕ → Option ℕ → Type 0
+DigitAt s i (Some d) = DigitIs s i d
+DigitAt s i None = i < length s → IsDigit (get_or s i 0) → ⊥
 
 -- a text that begins with no digit
 abbrev pub NoDigit : List ℕ → Type 0
@@ -38,7 +35,7 @@ pub record Stands (s : List ℕ) (at most n end : ℕ) : Type 0 where
 abbrev pub RunTo : List ℕ → ℕ → ℕ → ℕ → ℕ → Type 0
 RunTo s at most n end = Stands s at most n end × NoDigit (drop end s)
 
--- the number that all digits from a place on write, where it is at most most, and its end; Bad where they write none such
-abbrev pub RunAt : List ℕ → ℕ → ℕ → Run → Type 0
-RunAt s at most (To n end) = RunTo s at most n end
-RunAt s at most Bad = (n end : ℕ) → RunTo s at most n end → ⊥
+-- the number that all digits from a place on write, where it is at most most, and its end; None where they write none such
+abbrev pub RunAt : List ℕ → ℕ → ℕ → Option Item → Type 0
+RunAt s at most (Some r) = RunTo s at most r.value r.end
+RunAt s at most None = (n end : ℕ) → RunTo s at most n end → ⊥

@@ -2,7 +2,7 @@
 use Rattle.std.specs.Prelude.{◌≡◌, List, [], ◌∷◌, ◌++◌, ℕ}
 use Rattle.numbers.specs.Every.{Every}
 use Rattle.rfc4180.specs.declared.bytes.Class.{Class}
-use Rattle.rfc4180.specs.declared.bytes.Class.TheVariants.{Text, Comma, Quote, Return, Feed, Other, Nothing}
+use Rattle.rfc4180.specs.declared.bytes.Class.TheVariants.{Text, Comma, Quote, Return, Feed, Other}
 use Rattle.rfc4180.specs.Bytes.{class_of}
 
 -- a field as it stands: its bytes, or its bytes between two quotes
@@ -27,7 +27,6 @@ Inner Quote = ⊥
 Inner Return = Unit {0}
 Inner Feed = Unit {0}
 Inner Other = ⊥
-Inner Nothing = ⊥
 
 -- the bytes between the quotes of a field, and its content: two quotes stand for one
 pub data Inside : List ℕ → List ℕ → Type 0 where

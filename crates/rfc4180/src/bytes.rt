@@ -3,7 +3,7 @@ ghost use Rattle.std.specs.Prelude.{◌≡◌, drop};
 ghost use Rattle.numbers.specs.Decides.{Decides};
 ghost use Rattle.rfc4180.specs.Bytes.{class_of, class_at};
 
-#[derive(Drop)]
+#[derive(Clone, Copy, PartialEq, Eq)]
 pub enum Class {
     Text,
     Comma,
@@ -11,11 +11,10 @@ pub enum Class {
     Return,
     Feed,
     Other,
-    // The end of the text.
-    Nothing,
 }
 
-fn class_of(b: u8) -> Class
+#[tactic(auto, unfolding(crate::specs::Bytes::class_of))]
+pub(crate) fn class_of(b: u8) -> Class
     ensures { result ≡ class_of b }
 {
     match b {
@@ -28,30 +27,16 @@ fn class_of(b: u8) -> Class
     }
 }
 
-// The class of the byte at i.
-pub(crate) fn class_at(s: &[u8], i: usize) -> Class
+// The class of the byte at a place, where the text is not over.
+pub(crate) fn class_at(s: &[u8], i: usize) -> Option<Class>
     ensures { result ≡ class_at (drop i s.now) }
 {
-    if i < s.len() {
-        class_of(s[i])
-    } else {
-        Class::Nothing
-    }
+    Some(class_of(*s.get(i)?))
 }
 
-// Whether two texts are the same.
+// Whether two texts are the same. It is `==`; it stays, for its statement and its wrong answers are public.
 pub fn same(a: &[u8], b: &[u8]) -> bool
     ensures { Decides (a.now ≡ b.now) result }
 {
-    if a.len() != b.len() {
-        return false;
-    }
-    let mut i: usize = 0;
-    while i < a.len() {
-        if a[i] != b[i] {
-            return false;
-        }
-        i += 1;
-    }
-    true
+    a == b
 }

@@ -1,8 +1,10 @@
 // Records, wherever they stand in a text.
-ghost use Rattle.std.specs.Prelude.{◌≡◌};
-ghost use Rattle.rfc4180.specs.Records.{PlainTo, ClosedAt, FieldAt, AfterAt, RecordAt, no_record};
+ghost use Rattle.std.specs.Prelude.{◌≡◌, ◌≤◌, length, drop, Some};
+ghost use Rattle.numbers.specs.Decides.{Decides};
+ghost use Rattle.rfc4180.specs.Bytes.{class_at};
+ghost use Rattle.rfc4180.specs.Records.{PlainTo, ClosedAt, FieldAt, AfterAt, RecordAt};
 
-use crate::bytes::{Class, class_at};
+use crate::bytes::{Class, class_at, class_of};
 
 // The fields of a record that are kept.
 pub const KEPT: usize = 8;
@@ -14,135 +16,122 @@ pub struct Span {
     pub end: usize,
 }
 
-// A record: how many fields it has, where the first of them stand, and the place after it. No record has no field.
-#[derive(Drop)]
+// A record: how many fields it has, where the first of them stand, and the place after it. A filler stands behind them, since an array of fixed length
+// has something in every place (no heap); the count says which are fields.
+#[derive(Clone, Copy)]
 pub struct Found {
     pub count: usize,
     pub fields: [Span; KEPT],
     pub next: usize,
 }
 
-#[derive(Drop)]
-enum Closed {
-    At(usize),
-    Never,
-}
-
 // A field, and the place after it.
-#[derive(Drop)]
-enum Field {
-    Is(Span, usize),
-    Broken,
+#[derive(Clone, Copy)]
+struct Field {
+    span: Span,
+    end: usize,
 }
 
 // What follows a field: another one, or the end of the record, each with the place where it goes on.
-#[derive(Drop)]
+#[derive(Clone, Copy)]
 enum After {
     More(usize),
     End(usize),
-    Neither,
 }
 
 // The end of the bytes of an unquoted field.
 fn plain_end(text: &[u8], from: usize) -> usize
+    requires { from ≤ length text.now }
     ensures { PlainTo text.now from result }
 {
-    let mut i = from;
-    loop {
-        match class_at(text, i) {
-            Class::Text => i += 1,
-            _ => return i,
-        }
-    }
+    let rest = &text[from..];
+    from + rest
+        .iter()
+        .position(|b| class_of(*b) != Class::Text)
+        .unwrap_or(rest.len())
 }
 
-// The place of the quote that closes a field.
-fn closing(text: &[u8], from: usize) -> Closed
+// Whether a byte of a class stands at a place.
+fn stands(text: &[u8], i: usize, class: Class) -> bool
+    ensures { Decides (class_at (drop i text.now) ≡ Some class) result }
+{
+    class_at(text, i) == Some(class)
+}
+
+// The place of the quote that closes a field. It is reached by steps of one byte, and of two quotes.
+fn closing(text: &[u8], from: usize) -> Option<usize>
     ensures { ClosedAt text.now from result }
 {
     let mut i = from;
     loop {
-        match class_at(text, i) {
-            Class::Quote => match class_at(text, i + 1) {
-                Class::Quote => i += 2,
-                _ => return Closed::At(i),
-            },
-            Class::Other | Class::Nothing => return Closed::Never,
+        match class_at(text, i)? {
+            Class::Quote if stands(text, i + 1, Class::Quote) => i += 2,
+            Class::Quote => return Some(i),
+            Class::Other => return None,
             _ => i += 1,
         }
     }
 }
 
 // The field at a place.
-fn field_at(text: &[u8], at: usize) -> Field
+fn field_at(text: &[u8], at: usize) -> Option<Field>
+    requires { at ≤ length text.now }
     ensures { FieldAt text.now at result }
 {
-    match class_at(text, at) {
-        Class::Quote => match closing(text, at + 1) {
-            Closed::At(end) => Field::Is(Span { start: at + 1, end }, end + 1),
-            Closed::Never => Field::Broken,
-        },
-        _ => {
-            let end = plain_end(text, at);
-            Field::Is(Span { start: at, end }, end)
-        }
+    if stands(text, at, Class::Quote) {
+        let start = at + 1;
+        let end = closing(text, start)?;
+        return Some(Field {
+            span: Span { start, end },
+            end: end + 1,
+        });
     }
+    let end = plain_end(text, at);
+    Some(Field {
+        span: Span { start: at, end },
+        end,
+    })
 }
 
 // What follows a field that ends at a place.
-fn after_at(text: &[u8], at: usize) -> After
+fn after_at(text: &[u8], at: usize) -> Option<After>
     ensures { AfterAt text.now at result }
 {
-    match class_at(text, at) {
-        Class::Comma => After::More(at + 1),
-        Class::Nothing => After::End(text.len()),
-        Class::Return => match class_at(text, at + 1) {
-            Class::Feed => After::End(at + 2),
-            _ => After::Neither,
-        },
-        _ => After::Neither,
+    let Some(class) = class_at(text, at) else {
+        return Some(After::End(text.len()));
+    };
+    match class {
+        Class::Comma => Some(After::More(at + 1)),
+        Class::Return if stands(text, at + 1, Class::Feed) => Some(After::End(at + 2)),
+        _ => None,
     }
 }
 
-fn none() -> Found
-    ensures { result ≡ no_record }
-{
-    let fields = [Span { start: 0, end: 0 }; KEPT];
-    Found {
-        count: 0,
-        fields,
-        next: 0,
-    }
-}
-
-// The record at a place of a text.
-pub fn record_at(text: &[u8], at: usize) -> Found
+// The record at a place of a text. The place goes from field to field, each of its own length; fields past KEPT are counted too.
+pub fn record_at(text: &[u8], at: usize) -> Option<Found>
     ensures { RecordAt text.now at result }
 {
     if text.len() < at {
-        return none();
+        return None;
     }
     let mut fields = [Span { start: 0, end: 0 }; KEPT];
     let mut count: usize = 0;
     let mut next = at;
     loop {
-        let Field::Is(span, end) = field_at(text, next) else {
-            return none();
-        };
+        let field = field_at(text, next)?;
         if count < KEPT {
-            fields[count] = span;
+            fields[count] = field.span;
         }
         count += 1;
-        match after_at(text, end) {
+        match after_at(text, field.end)? {
             After::More(further) => next = further,
             After::End(past) => {
-                return Found {
+                return Some(Found {
                     count,
                     fields,
                     next: past,
-                };
+                });
             }
-            After::Neither => return none(),
         }
     }
 }

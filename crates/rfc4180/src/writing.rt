@@ -1,4 +1,5 @@
 // Bytes laid over a buffer from a place on. What lays them returns the place behind them.
+// A struct of both would owe, in every contract, that it still holds the buffer that it was lent.
 ghost use Rattle.std.specs.Prelude.{[], ◌∷◌};
 ghost use Rattle.rfc4180.specs.Decimal.{decimal};
 ghost use Rattle.rfc4180.specs.Laid.{Room, Laid};
@@ -8,15 +9,12 @@ pub fn word(out: &mut [u8], at: usize, text: &[u8]) -> usize
     requires { Room out.old at text.now }
     ensures { Laid out.old at text.now out.new result }
 {
-    let mut i: usize = 0;
-    while i < text.len() {
-        out[at + i] = text[i];
-        i += 1;
-    }
-    at + i
+    let end = at + text.len();
+    out[at..end].copy_from_slice(text);
+    end
 }
 
-// A number in plain decimal.
+// A number in plain decimal, by hand: `{n}` of Display is a text of its own, which is then copied; no plainer.
 pub fn number(out: &mut [u8], at: usize, n: u64) -> usize
     requires { Room out.old at (decimal n) }
     ensures { Laid out.old at (decimal n) out.new result }
@@ -44,7 +42,5 @@ pub fn crlf(out: &mut [u8], at: usize) -> usize
     requires { Room out.old at (13 ∷ 10 ∷ []) }
     ensures { Laid out.old at (13 ∷ 10 ∷ []) out.new result }
 {
-    out[at] = b'\r';
-    out[at + 1] = b'\n';
-    at + 2
+    word(out, at, b"\r\n")
 }

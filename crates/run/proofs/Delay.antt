@@ -6,11 +6,14 @@ use mathlib.Core.Bool.{Bool, true, false, not, ◌||◌, cond}
 use native.Mathlib.Nat.{div-add-mod, mod-lt, mod_self, mod-eq_of_lt, mul-add, sub-zero, zero-mul, lt_of_not-le, mul-le-mul_right}
 use native.Mathlib.Omega.{arith}
 use borrow.Author.Tests.{eq-eqb, ne_eqb}
+use Rattle.std.specs.Prelude.{Option, Some, None}
+use Rattle.std.proofs.lemmas.Option.{none-some}
 use lib.Dec.{T, ltb, eqb, nltb→le, eqb→eq, eqb_refl, T_not, not_T}
 use lib.Arith.{le→nltb}
 use Rattle.numbers.specs.Extreme.{least_unique}
 use Rattle.numbers.specs.Quotient.{rounded_of, rounded_of_law}
 use Rattle.units.specs.Limits.{CLOCK_LIMIT}
+use Rattle.terms.specs.declared.refusal.Reason.{Reason}
 use Rattle.run.specs.Plan.{RunPlan, sink_start}
 use Rattle.run.specs.Machine.{Machine, Request, refusal, leaving, changed, delay, worst}
 use Rattle.run.specs.Demand.{place, sink_set}
@@ -37,11 +40,11 @@ pub record Accepted (p : RunPlan) (m : Machine) (r : Request) : Type 0 where
   pub clock : r.tick ≤ CLOCK_LIMIT.0
   pub settled : m.ended ≤ r.tick
 
-cond_zero : (b : Bool) (k x : ℕ) → cond b (suc k) x ≡ 0 → T (not b) × (x ≡ 0)
-cond_zero true k x h = absurd (omega arith)
-cond_zero false k x h = (tt, h)
+cond_none : (b : Bool) (k : Reason) (x : Option Reason) → cond b (Some k) x ≡ None → T (not b) × (x ≡ None)
+cond_none true k x h = absurd (none-some _ (sym h))
+cond_none false k x h = (tt, h)
 
-cond_pass : (b : Bool) (k x : ℕ) → T (not b) → x ≡ 0 → cond b k x ≡ 0
+cond_pass : (b : Bool) (k x : Option Reason) → T (not b) → x ≡ None → cond b k x ≡ None
 cond_pass true k x h e = absurd h
 cond_pass false k x h e = e
 
@@ -62,14 +65,14 @@ not_or_i true b h k = h
 not_or_i false b h k = k
 
 module _ (p : RunPlan) (m : Machine) (r : Request) where
-  pub accepted : refusal p m r ≡ 0 → Accepted p m r
+  pub accepted : refusal p m r ≡ None → Accepted p m r
   unfolding refusal
   accepted h =
-      let (a, h₁) = cond_zero (not (p.listed m.mode) || ltb m.ended m.started) 15 _ h in
-      let (b, h₂) = cond_zero (not (p.listed r.mode)) 10 _ h₁ in
-      let (c, h₃) = cond_zero (eqb r.mode m.mode) 11 _ h₂ in
-      let (d, h₄) = cond_zero (ltb CLOCK_LIMIT.0 r.tick) 12 _ h₃ in
-      let (e, h₅) = cond_zero (ltb r.tick m.ended) 13 0 h₄ in
+      let (a, h₁) = cond_none (not (p.listed m.mode) || ltb m.ended m.started) _ _ h in
+      let (b, h₂) = cond_none (not (p.listed r.mode)) _ _ h₁ in
+      let (c, h₃) = cond_none (eqb r.mode m.mode) _ _ h₂ in
+      let (d, h₄) = cond_none (ltb CLOCK_LIMIT.0 r.tick) _ _ h₃ in
+      let (e, h₅) = cond_none (ltb r.tick m.ended) _ _ h₄ in
       let (f, g) = not_or (not (p.listed m.mode)) (ltb m.ended m.started) a in
       record {
         old = not_not (p.listed m.mode) f;
@@ -80,22 +83,22 @@ module _ (p : RunPlan) (m : Machine) (r : Request) where
         settled = nltb→le r.tick m.ended e;
       }
 
-  pub accepts : Accepted p m r → refusal p m r ≡ 0
+  pub accepts : Accepted p m r → refusal p m r ≡ None
   unfolding refusal
   accepts a =
-      cond_pass (not (p.listed m.mode) || ltb m.ended m.started) 16 _
+      cond_pass (not (p.listed m.mode) || ltb m.ended m.started) _ _
       (not_or_i (not (p.listed m.mode)) (ltb m.ended m.started) (not_not_i (p.listed m.mode) a.old) (le→nltb m.ended m.started a.ordered))
-      (cond_pass (not (p.listed r.mode)) 11 _ (not_not_i (p.listed r.mode) a.new)
-      (cond_pass (eqb r.mode m.mode) 12 _ (not_T (eqb r.mode m.mode) (λ t. a.other (eqb→eq r.mode m.mode t)))
-      (cond_pass (ltb CLOCK_LIMIT.0 r.tick) 13 _ (le→nltb CLOCK_LIMIT.0 r.tick a.clock)
-      (cond_pass (ltb r.tick m.ended) 14 0 (le→nltb r.tick m.ended a.settled) refl))))
+      (cond_pass (not (p.listed r.mode)) _ _ (not_not_i (p.listed r.mode) a.new)
+      (cond_pass (eqb r.mode m.mode) _ _ (not_T (eqb r.mode m.mode) (λ t. a.other (eqb→eq r.mode m.mode t)))
+      (cond_pass (ltb CLOCK_LIMIT.0 r.tick) _ _ (le→nltb CLOCK_LIMIT.0 r.tick a.clock)
+      (cond_pass (ltb r.tick m.ended) _ _ (le→nltb r.tick m.ended a.settled) refl))))
 
 -- the delay as a function of the two modes and the place
 abbrev pub delay_at : RunPlan → ℕ → ℕ → ℕ → ℕ
 delay_at p o l x = p.offset o l + sink_start p l + (p.iteration o - x) % p.iteration o
 
 module _ (p : RunPlan) (ok : Sound p) where
-  module _ (m : Machine) (r : Request) (h : refusal p m r ≡ 0) where
+  module _ (m : Machine) (r : Request) (h : refusal p m r ≡ None) where
     pub leaving_is : leaving p m r ≡ r.tick + (p.iteration m.mode - place p m r) % p.iteration m.mode
     leaving_is =
         let a = accepted p m r h in
@@ -110,7 +113,7 @@ module _ (p : RunPlan) (ok : Sound p) where
     pub delay_set : sink_set p (changed p m r) ≡ r.tick + delay p m r
     delay_set = omega (arith, leaving_is, zero-mul (p.period r.mode (p.sink r.mode)))
 
-  pub delay_same : (m n : Machine) (r q : Request) → refusal p m r ≡ 0 → refusal p n q ≡ 0
+  pub delay_same : (m n : Machine) (r q : Request) → refusal p m r ≡ None → refusal p n q ≡ None
       → m.mode ≡ n.mode → r.mode ≡ q.mode → place p m r ≡ place p n q → delay p m r ≡ delay p n q
   delay_same m n r q h k e f g = delay_is m r h ∙ rw (g, e, f) (sym (delay_is n q k))
 
@@ -120,7 +123,7 @@ module _ (p : RunPlan) (ok : Sound p) where
 
   pub delay_reached : (m : Machine) (l : ℕ) → T (p.listed m.mode) → T (p.listed l) → l ≢ m.mode → m.started ≤ m.ended
       → m.ended + p.iteration m.mode ≤ CLOCK_LIMIT.0
-      → (r : Request) × (r.mode ≡ l) × (refusal p m r ≡ 0) × (delay p m r ≡ worst p m.mode l)
+      → (r : Request) × (r.mode ≡ l) × (refusal p m r ≡ None) × (delay p m r ≡ worst p m.mode l)
   unfolding reaching
   delay_reached m l o n other ordered room =
       let h = p.iteration m.mode in

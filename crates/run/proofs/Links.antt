@@ -6,6 +6,7 @@ use mathlib.Core.List.{List, [], ◌∷◌}
 use mathlib.Core.Logic.{◌⊎◌, inl, inr, ◌≢◌}
 use native.Mathlib.Nat.{mul_comm, le-max_left}
 use native.Mathlib.Omega.{arith}
+use Rattle.std.specs.Prelude.{Option, Some, None, is_none}
 use lib.Dec.{T, leb, eqb, leb→le, ltb→lt, eqb→eq}
 use lib.Ieee.Fits.{and_l, and_r}
 use Rattle.numbers.specs.Every.{Every}
@@ -18,6 +19,10 @@ use Rattle.run.proofs.Sound.{Sound}
 use Rattle.run.proofs.Tallies.{split, if_le, if_none}
 use Rattle.run.proofs.Delay.{accepted, leaving_is}
 use Rattle.run.proofs.Tokens.{Whole}
+
+none_is : {A : Type 0} (o : Option A) → T (is_none o) → o ≡ None
+none_is None h = refl
+none_is (Some x) h = absurd h
 
 -- machine b was left at f, and machine c came after it
 pub record Link (p : RunPlan) (b : Machine) (f : ℕ) (c : Machine) : Type 0 where
@@ -51,7 +56,7 @@ module _ (p : RunPlan) where
 
 module _ (p : RunPlan) (ok : Sound p) where
   -- every run is linked
-  link : (m : Machine) (r : Request) → refusal p m r ≡ 0 → Link p m (leaving p m r) (changed p m r)
+  link : (m : Machine) (r : Request) → refusal p m r ≡ None → Link p m (leaving p m r) (changed p m r)
   link m r h =
       let a = accepted p m r h in
       record {
@@ -71,7 +76,7 @@ module _ (p : RunPlan) (ok : Sound p) where
 
   answer_linked : (s : Run) (r : Request) → LinkedRun s → LinkedRun (answer p s r)
   unfolding answer
-  answer_linked s r h = choose (eqb (refusal p s.now r) 0) _ s (λ t. later h (link s.now r (eqb→eq (refusal p s.now r) 0 t))) h
+  answer_linked s r h = choose (is_none (refusal p s.now r)) _ s (λ t. later h (link s.now r (none_is (refusal p s.now r) t))) h
     where
       choose : (b : Bool) (x y : Run) → (T b → LinkedRun x) → LinkedRun y → LinkedRun (cond b x y)
       choose true x y h k = h tt

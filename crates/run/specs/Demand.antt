@@ -1,5 +1,5 @@
 -- Demand 3, of a plan.
-use Rattle.std.specs.Prelude.{ℕ, ◌+◌, ◌-◌, ◌%◌, ◌≤◌, ◌<◌, ◌≡◌, cond, ◌≢◌, List, T}
+use Rattle.std.specs.Prelude.{None, ℕ, ◌+◌, ◌-◌, ◌%◌, ◌≤◌, ◌<◌, ◌≡◌, cond, ◌≢◌, List, T}
 use Rattle.numbers.specs.Every.{Every}
 use Rattle.numbers.specs.Fraction.{AtMost}
 use Rattle.units.specs.Limits.{limit_of}
@@ -54,5 +54,5 @@ pub record OrderlyRuns (p : RunPlan) : Type 0 where
   -- An actor has at most one firing under way, over all visits.
   pub one_firing : (i t : ℕ) → i < p.actors → EveryRun p (λ s. total (visits s) (busy p i t) ≤ 1)
   -- An accepted request cancels no firing that has begun before its tick: it is still one of the visit's when that is left.
-  pub none_cancelled : (m : Machine) (r : Request) (i n : ℕ) → refusal p m r ≡ 0 → begins p (visit m stays) i n < r.tick
+  pub none_cancelled : (m : Machine) (r : Request) (i n : ℕ) → refusal p m r ≡ None → begins p (visit m stays) i n < r.tick
       → T (fires p (visit m (leaves (leaving p m r))) i n)

@@ -1,8 +1,9 @@
 -- The running machine: requests, refusals, and the visits of a run.
-use Rattle.std.specs.Prelude.{ℕ, ◌+◌, ◌-◌, ◌*◌, max, not, ◌||◌, cond, List, [], ◌∷◌, ltb, eqb}
+use Rattle.std.specs.Prelude.{Option, Some, None, is_none, ℕ, ◌+◌, ◌-◌, ◌*◌, max, not, ◌||◌, cond, List, [], ◌∷◌, ltb, eqb}
 use Rattle.numbers.specs.Quotient.{rounded_of}
 use Rattle.units.specs.Limits.{CLOCK_LIMIT}
-use Rattle.terms.specs.Refusal.{NO_MODE, SAME_MODE, PAST_CLOCK, UNENDED, NO_MACHINE}
+use Rattle.terms.specs.declared.refusal.Reason.{Reason}
+use Rattle.terms.specs.declared.refusal.Reason.TheVariants.{NoMode, SameMode, PastClock, Unended, NoMachine}
 use Rattle.run.specs.Plan.{RunPlan, sink_start}
 
 -- a mode, its starting tick, and the tick at which its change ends
@@ -16,14 +17,14 @@ pub record Request : Type 0 where
   pub mode : ℕ
   pub tick : ℕ
 
--- the number of the refusal, and 0 for a request that is accepted
-unfoldable pub refusal : RunPlan → Machine → Request → ℕ
+-- why a request is refused; none where it is accepted
+unfoldable pub refusal : RunPlan → Machine → Request → Option Reason
 refusal p m r =
-    cond (not (p.listed m.mode) || ltb m.ended m.started) NO_MACHINE
-    (cond (not (p.listed r.mode)) NO_MODE
-    (cond (eqb r.mode m.mode) SAME_MODE
-    (cond (ltb CLOCK_LIMIT.0 r.tick) PAST_CLOCK
-    (cond (ltb r.tick m.ended) UNENDED 0))))
+    cond (not (p.listed m.mode) || ltb m.ended m.started) (Some NoMachine)
+    (cond (not (p.listed r.mode)) (Some NoMode)
+    (cond (eqb r.mode m.mode) (Some SameMode)
+    (cond (ltb CLOCK_LIMIT.0 r.tick) (Some PastClock)
+    (cond (ltb r.tick m.ended) (Some Unended) None))))
 
 -- F: the old mode is left after whole iterations, (t - s) / H rounded up
 abbrev pub leaving : RunPlan → Machine → Request → ℕ
@@ -73,7 +74,7 @@ begin p m = record { now = record { mode = m; started = 0; ended = p.startup m }
 -- a request is answered: a refused one changes nothing
 unfoldable pub answer : RunPlan → Run → Request → Run
 answer p s r =
-    cond (eqb (refusal p s.now r) 0)
+    cond (is_none (refusal p s.now r))
     (record { now = changed p s.now r; past = visit s.now (leaves (leaving p s.now r)) ∷ s.past })
     s
 

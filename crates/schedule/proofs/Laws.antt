@@ -1,5 +1,5 @@
--- What holds of the starts of every mode whose judgement is sound. Assumes nothing.
-use mathlib.Core.Path.{◌≡◌, subst}
+-- What holds of the starts of every mode that its judgement does not refuse. Assumes nothing.
+use mathlib.Core.Path.{subst}
 use Prim.Native.Nat.{ℕ, ◌≤◌}
 use native.Mathlib.Nat.{mul-le-mul_right}
 use native.Mathlib.Omega.{arith}
@@ -8,7 +8,7 @@ use Rattle.units.specs.Limits.{ACTORS}
 use Rattle.units.specs.declared.Tick.{Tick}
 use Rattle.tables.specs.Shape.{Mode}
 use Rattle.tables.specs.Proper.{ProperMode}
-use Rattle.graph.specs.declared.Verdict.TheVariants.{Sound as IsSound}
+use Rattle.std.specs.Prelude.{Ok}
 use Rattle.graph.specs.declared.Judgement.{Judgement}
 use Rattle.graph.specs.Judged.{Judged}
 use Rattle.schedule.specs.Starts.{Starts}
@@ -18,13 +18,13 @@ use Rattle.schedule.proofs.Finding.{reached_starts}
 use Rattle.schedule.proofs.Unique.{starts_unique}
 use Rattle.schedule.proofs.Modelled.{ready, starts_found}
 
-module _ (m : Mode) (j : Judgement) (proper : ProperMode m) (judged : Judged m j) (sound : j.verdict ≡ IsSound) where
+module _ (m : Mode) (j : Judgement) (proper : ProperMode m) (judged : Judged m (Ok j)) where
   found : Reached m j.periods j.depths ACTORS 0 (starts_of m j.periods j.depths)
-  found = starts_found m j.periods j.depths (ready m j proper judged sound)
+  found = starts_found m j.periods j.depths (ready m j proper judged)
 
   -- there are such starts
   pub starts_exist : Starts m j.periods (start_at (starts_of m j.periods j.depths))
-  starts_exist = reached_starts m j.periods j.depths (ready m j proper judged sound) _ found
+  starts_exist = reached_starts m j.periods j.depths (ready m j proper judged) _ found
 
   module _ (s : ℕ → Tick) (starts : Starts m j.periods s) where
     of_found : (P : (ℕ → Tick) → Type 0) → P (start_at (starts_of m j.periods j.depths)) → P s
@@ -34,4 +34,4 @@ module _ (m : Mode) (j : Judgement) (proper : ProperMode m) (judged : Judged m j
     pub starts_within : (i : ℕ) → (s i).0 ≤ MOST_START.0
     starts_within i =
         of_found (λ t. (t i).0 ≤ MOST_START.0)
-        (omega (arith, found.within i, mul-le-mul_right MOST_WAIT.0 ((ready m j proper judged sound).below i)))
+        (omega (arith, found.within i, mul-le-mul_right MOST_WAIT.0 ((ready m j proper judged).below i)))

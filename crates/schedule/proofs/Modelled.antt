@@ -19,7 +19,7 @@ use Rattle.units.specs.declared.Tick.{Tick}
 use Rattle.units.specs.Tokens.{token}
 use Rattle.tables.specs.Shape.{Mode, channel_at}
 use Rattle.tables.specs.Proper.{ProperMode}
-use Rattle.graph.specs.declared.Verdict.TheVariants.{Sound as IsSound}
+use Rattle.std.specs.Prelude.{Ok}
 use Rattle.graph.specs.declared.Judgement.{Judgement}
 use Rattle.graph.specs.Judged.{Judged}
 use Rattle.channel.proofs.Laws.{start_least, size_greatest}
@@ -73,9 +73,9 @@ sizes_found m ps l fits =
       no_size = λ k l h. get_or_tab CHANNELS _ k (token 0) l ∙ rw (le-ltb k m.count h);
     }
 
-module _ (m : Mode) (j : Judgement) (proper : ProperMode m) (judged : Judged m j) (sound : j.verdict ≡ IsSound) where
+module _ (m : Mode) (j : Judgement) (proper : ProperMode m) (judged : Judged m (Ok j)) where
   pub ready : Ready m j.periods j.depths
-  ready = let (x, p) = numbers_of judged sound in judged_ready m j proper x p
+  ready = let (x, p) = numbers_of judged in judged_ready m j proper x p
 
   -- the answer for starts that are found
   answer_is : (l : List Tick) → Reached m j.periods j.depths ACTORS 0 l → Scheduled m j (answer_of m j l)
@@ -100,7 +100,6 @@ module _ (m : Mode) (j : Judgement) (proper : ProperMode m) (judged : Judged m j
           (on_time (start_at l) (reached_starts m _ _ ready l r)
           (λ i w. decides_false (later_is l m.active (start_at l j.sink) i) (none i zero-le w.0.0) (w.0.1, w.1))
           (record {
-            timing = refl;
             startup = refl;
             starts = reached_listed m _ _ ready l r;
             sizes = sizes_found m j.periods l (reached_fits m _ _ ready l r);

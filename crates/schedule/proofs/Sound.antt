@@ -1,5 +1,5 @@
--- What a sound judgement gives: a mode whose channels are paced, with depths that grow along them. Assumes nothing.
-use mathlib.Core.Path.{◌≡◌, refl, sym, ap, subst, ◌∙◌}
+-- What a judgement that does not refuse gives: a mode whose channels are paced, with depths that grow along them. Assumes nothing.
+use mathlib.Core.Path.{◌≡◌, refl, ap, ◌∙◌}
 use mathlib.Core.Bool.{Bool, true, false, cond}
 use mathlib.Core.List.{List}
 use Prim.Native.Nat.{ℕ, ◌*◌, ◌≤◌, ◌<◌}
@@ -21,11 +21,10 @@ use Rattle.period.specs.Period.{period_of}
 use Rattle.rate.specs.Rate.{rate_of, rate_in}
 use Rattle.tables.specs.Shape.{Mode, actor_at, channel_at, Active}
 use Rattle.tables.specs.Proper.{ProperMode, ProperRates}
-use Rattle.graph.specs.declared.Verdict.{Verdict}
-use Rattle.graph.specs.declared.Verdict.TheVariants.{Cyclic as IsCyclic, Ends as HasNoEnds, Unbalanced as IsUnbalanced, Overloaded as IsOverloaded, Sound as IsSound}
+use Rattle.std.specs.Prelude.{Ok}
 use Rattle.graph.specs.declared.Judgement.{Judgement}
 use Rattle.graph.specs.Balance.{firings_of}
-use Rattle.graph.specs.Judged.{of_actors, Numbers, Judged, cyclic, no_ends, unbalanced, overloaded, sound}
+use Rattle.graph.specs.Judged.{of_actors, Numbers, Judged, sound}
 use Rattle.graph.specs.Laws.{iteration_pos, period_whole, firings_divide}
 use Rattle.graph.specs.Lengths.{Few}
 use Rattle.graph.proofs.Sorted.{joins_deeper, ranked_below}
@@ -33,20 +32,8 @@ use Rattle.channel.specs.Flow.{Proper, Paced}
 use Rattle.schedule.specs.Starts.{producer_of, consumer_of}
 use Rattle.schedule.specs.Reached.{Ready}
 
--- the verdict of a mode that is not refused
-abbrev Passes : Verdict → Type 0
-Passes IsCyclic = ⊥
-Passes HasNoEnds = ⊥
-Passes IsUnbalanced = ⊥
-Passes (IsOverloaded p) = ⊥
-Passes IsSound = Unit {0}
-
-pub numbers_of : {m : Mode} {j : Judgement} → Judged m j → j.verdict ≡ IsSound → (x : ℕ → ℕ) × Numbers m x j
-numbers_of (cyclic c) e = absurd (subst Passes (sym e) tt)
-numbers_of (no_ends n d) e = absurd (subst Passes (sym e) tt)
-numbers_of (unbalanced n d u) e = absurd (subst Passes (sym e) tt)
-numbers_of (overloaded x n d s i w o) e = absurd (subst Passes (sym e) tt)
-numbers_of (sound x n p f) e = (x, p)
+pub numbers_of : {m : Mode} {j : Judgement} → Judged m (Ok j) → (x : ℕ → ℕ) × Numbers m x j
+numbers_of (sound x n p f) = (x, p)
 
 -- what stands at an actor's place
 pub at_actor : {A : Type 0} (m : Mode) (f : ℕ → A) (z : A) (i : ℕ) → Active m i → get_or (of_actors m f z) i z ≡ f i

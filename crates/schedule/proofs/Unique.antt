@@ -15,10 +15,11 @@ use Rattle.units.specs.Ticks.{tick}
 use Rattle.units.specs.Tokens.{token}
 use Rattle.tables.specs.Shape.{Mode}
 use Rattle.graph.specs.declared.Judgement.{Judgement}
+use Rattle.std.specs.Prelude.{Result, Ok, Err}
+use Rattle.schedule.specs.declared.Late.{Late as Lateness}
 use Rattle.schedule.specs.declared.Timetable.{Timetable}
 use Rattle.schedule.specs.Starts.{Starts, Late}
-use Rattle.schedule.specs.Nothing.{late_by}
-use Rattle.schedule.specs.Scheduled.{Sizes, Times, Scheduled, late, on_time}
+use Rattle.schedule.specs.Scheduled.{Sizes, Times, late_by, Scheduled, late, on_time}
 
 module _ (m : Mode) where
   -- one table has the least starts
@@ -35,17 +36,16 @@ module _ (m : Mode) where
   module _ (j : Judgement) where
     times_unique : (s : ℕ → Tick) (a b : Timetable) → Times m j s a → Times m j s b → a ≡ b
     times_unique s a b p q = λ n. record {
-      timing = (p.timing ∙ sym q.timing) n;
       startup = (p.startup ∙ sym q.startup) n;
       starts = (p.starts ∙ sym q.starts) n;
       sizes = sizes_unique j.periods s a.sizes b.sizes p.sizes q.sizes n;
       tokens = (p.tokens ∙ sym q.tokens) n;
     }
 
-    pub scheduled_unique : {a b : Timetable} → Scheduled m j a → Scheduled m j b → a ≡ b
+    pub scheduled_unique : {a b : Result Timetable Lateness} → Scheduled m j a → Scheduled m j b → a ≡ b
     scheduled_unique (late {a} s p l) (late t q k) =
-        ap late_by (least_unique (Late m t j.sink) (subst (λ s. Least (Late m s j.sink) a) (starts_unique j.periods p q) l) k)
+        ap (λ (a : ℕ). Err (late_by a)) (least_unique (Late m t j.sink) (subst (λ s. Least (Late m s j.sink) a) (starts_unique j.periods p q) l) k)
     scheduled_unique (late {a} s p l) (on_time t q none k) = absurd (none a (subst (λ s. Late m s j.sink a) (starts_unique j.periods p q) l.holds))
     scheduled_unique (on_time s p none l) (late {a} t q k) = absurd (none a (subst (λ s. Late m s j.sink a) (starts_unique j.periods q p) k.holds))
     scheduled_unique (on_time {r} s p none l) (on_time t q also k) =
-        times_unique t r _ (subst (λ s. Times m j s r) (starts_unique j.periods p q) l) k
+        ap Ok (times_unique t r _ (subst (λ s. Times m j s r) (starts_unique j.periods p q) l) k)

@@ -1,5 +1,4 @@
 -- The starts and the sizes of a mode.
-pub mod Nothing
 pub mod Starts
 pub mod Scheduled
 pub mod Reached

@@ -1,5 +1,5 @@
 -- What is scheduled of a mode: refusal 10 with its actor, or the starts, the sizes of the buffers and the tokens of an iteration.
-use Rattle.std.specs.Prelude.{◌≡◌, cond, List, ℕ, ◌≤◌, ◌<◌, ltb, length, get_or, take}
+use Rattle.std.specs.Prelude.{◌≡◌, cond, List, ℕ, ◌≤◌, ◌<◌, ltb, length, get_or, take, Result, Ok, Err}
 use Rattle.numbers.specs.Extreme.{Least}
 use Rattle.numbers.specs.Tab.{tab}
 use Rattle.units.specs.Limits.{CHANNELS}
@@ -14,9 +14,8 @@ use Rattle.tables.specs.Shape.{Mode, actor_at, channel_at}
 use Rattle.graph.specs.declared.Judgement.{Judgement}
 use Rattle.graph.specs.Judged.{of_actors}
 use Rattle.channel.specs.Flow.{IsSize}
-use Rattle.schedule.specs.declared.Timing.TheVariants.{OnTime}
+use Rattle.schedule.specs.declared.Late.{Late as Lateness}
 use Rattle.schedule.specs.declared.Timetable.{Timetable}
-use Rattle.schedule.specs.Nothing.{late_by}
 use Rattle.schedule.specs.Starts.{producer_of, consumer_of, Starts, startup_of, Late}
 
 -- for each place what f gives to a channel of the mode, and z where there is none
@@ -39,13 +38,16 @@ pub record Sizes (m : Mode) (ps : List Tick) (s : ℕ → Tick) (sizes : List To
 
 -- the numbers of a mode that is not refused, where s gives its starts; 0 for an actor that is not active
 pub record Times (m : Mode) (j : Judgement) (s : ℕ → Tick) (r : Timetable) : Type 0 where
-  pub timing : r.timing ≡ OnTime
   pub startup : r.startup ≡ startup_of s j.sink
   pub starts : r.starts ≡ of_actors m s (tick 0)
   pub sizes : Sizes m j.periods s r.sizes
   pub tokens : r.tokens ≡ of_channels m (tokens_on m j.firings) (token 0)
 
+-- that actor a is late
+abbrev pub late_by : ℕ → Lateness
+late_by a = record { actor = a }
+
 -- refused with the lowest actor that starts later than the sink; or none does
-pub data Scheduled (m : Mode) (j : Judgement) : Timetable → Type 0 where
-  late : {a : ℕ} (s : ℕ → Tick) → Starts m j.periods s → Least (Late m s j.sink) a → Scheduled m j (late_by a)
-  on_time : {r : Timetable} (s : ℕ → Tick) → Starts m j.periods s → ((i : ℕ) → Late m s j.sink i → ⊥) → Times m j s r → Scheduled m j r
+pub data Scheduled (m : Mode) (j : Judgement) : Result Timetable Lateness → Type 0 where
+  late : {a : ℕ} (s : ℕ → Tick) → Starts m j.periods s → Least (Late m s j.sink) a → Scheduled m j (Err (late_by a))
+  on_time : {r : Timetable} (s : ℕ → Tick) → Starts m j.periods s → ((i : ℕ) → Late m s j.sink i → ⊥) → Times m j s r → Scheduled m j (Ok r)

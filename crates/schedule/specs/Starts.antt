@@ -4,24 +4,21 @@ use Rattle.std.specs.Prelude.{List, ℕ, ◌≤◌, ◌<◌, get_or}
 use Rattle.units.specs.declared.Tick.{Tick}
 use Rattle.units.specs.Ticks.{tick}
 use Rattle.tables.specs.declared.Actor.{Actor}
-use Rattle.tables.specs.declared.Channel.{Channel}
 use Rattle.tables.specs.Shape.{Mode, actor_at, channel_at, Active}
 use Rattle.channel.specs.declared.End.{End}
 use Rattle.channel.specs.Flow.{Fed}
 
--- the ends of a channel at its producer and at its consumer, with the actor's period
-abbrev pub gives_of : Channel → Actor → Tick → End
-gives_of c a t = record { phases = a.phases; rates = c.production; period = t }
+-- the end of a channel at an actor with period t, which makes or takes so many tokens phase by phase
+abbrev pub end_of : Actor → List ℕ → Tick → End
+end_of a rates t = record { phases = a.phases; rates = rates; period = t }
 
-abbrev pub takes_of : Channel → Actor → Tick → End
-takes_of c a t = record { phases = a.phases; rates = c.consumption; period = t }
-
--- the two ends of channel k, where ps are the periods of the mode's actors
+-- the end of channel k at its producer, where ps are the periods of the mode's actors
 abbrev pub producer_of : Mode → List Tick → ℕ → End
-producer_of m ps k = gives_of (channel_at m k) (actor_at m (channel_at m k).from) (get_or ps (channel_at m k).from (tick 0))
+producer_of m ps k = end_of (actor_at m (channel_at m k).from) (channel_at m k).production (get_or ps (channel_at m k).from (tick 0))
 
+-- and at its consumer
 abbrev pub consumer_of : Mode → List Tick → ℕ → End
-consumer_of m ps k = takes_of (channel_at m k) (actor_at m (channel_at m k).to) (get_or ps (channel_at m k).to (tick 0))
+consumer_of m ps k = end_of (actor_at m (channel_at m k).to) (channel_at m k).consumption (get_or ps (channel_at m k).to (tick 0))
 
 -- on channel k no firing ever takes a token not yet there, where actor i starts at s i
 abbrev pub FedOn : Mode → List Tick → (ℕ → Tick) → ℕ → Type 0

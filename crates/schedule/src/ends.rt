@@ -1,28 +1,16 @@
-// The two ends of a channel, with the periods of its actors.
+// An end of a channel.
 ghost use Rattle.std.specs.Prelude.{◌≡◌};
-ghost use Rattle.schedule.specs.Starts.{gives_of, takes_of};
+ghost use Rattle.schedule.specs.Starts.{end_of};
 
 use channel::End;
-use tables::{Actor, Channel};
+use tables::Actor;
 use units::Tick;
+use units::limits::PHASES;
 
-// At its producer.
-pub(crate) fn gives_of(channel: Channel, actor: Actor, period: Tick) -> End
-    ensures { result ≡ gives_of channel actor period }
+// That of an actor with this period, which makes or takes so many tokens phase by phase.
+pub(crate) fn end_of(actor: Actor, rates: [u8; PHASES], period: Tick) -> End
+    ensures { result ≡ end_of actor rates period }
 {
-    let rates = channel.production;
-    End {
-        phases: actor.phases,
-        rates,
-        period,
-    }
-}
-
-// At its consumer.
-pub(crate) fn takes_of(channel: Channel, actor: Actor, period: Tick) -> End
-    ensures { result ≡ takes_of channel actor period }
-{
-    let rates = channel.consumption;
     End {
         phases: actor.phases,
         rates,

@@ -5,68 +5,46 @@ mod ends;
 mod sizes;
 mod starts;
 
-ghost use Rattle.std.specs.Prelude.{◌≡◌};
-ghost use Rattle.tables.specs.Memory.{mode_in, Stands};
-ghost use Rattle.graph.specs.declared.Verdict.TheVariants.{Sound};
+ghost use Rattle.std.specs.Prelude.{Ok};
+ghost use Rattle.tables.specs.Stored.{mode_of};
 ghost use Rattle.graph.specs.Judged.{Judged};
-ghost use Rattle.schedule.specs.Nothing.{late_by};
 ghost use Rattle.schedule.specs.Scheduled.{Scheduled};
 
 use graph::Judgement;
-use tables::memory::head_of;
+use tables::memory::InMemory;
 use units::limits::{ACTORS, CHANNELS};
 use units::{Tick, Token};
 
-// Whether some actor starts later than the sink: the lowest such actor, by its place.
-#[derive(Clone, Copy)]
-pub enum Timing {
-    Late(usize),
-    OnTime,
-}
-
 // What is scheduled of a mode: the tick at which its start-up ends, the start of each actor, and for each channel the size of its buffer and its tokens in
-// an iteration.
+// an iteration. Each list is found by a rule of its own.
 #[derive(Drop)]
 pub struct Timetable {
-    pub timing: Timing,
     pub startup: Tick,
     pub starts: [Tick; ACTORS],
     pub sizes: [Token; CHANNELS],
     pub tokens: [Token; CHANNELS],
 }
 
-fn refused(actor: usize) -> Timetable
-    ensures { result ≡ late_by actor }
-{
-    Timetable {
-        timing: Timing::Late(actor),
-        startup: Tick::NONE,
-        starts: [Tick::NONE; ACTORS],
-        sizes: [Token::NONE; CHANNELS],
-        tokens: [Token::NONE; CHANNELS],
-    }
+// Why a mode is not scheduled: this actor starts later than the sink, and no lower one does.
+#[derive(Clone, Copy)]
+pub struct Late {
+    pub actor: usize,
 }
 
-// Schedules a mode whose judgement is sound.
-pub fn schedule(front: &[u64], channels: &[u8], judged: Judgement) -> Timetable
-    requires { Stands front.now channels.now × Judged (mode_in front.now channels.now) judged × (judged.verdict ≡ Sound) }
-    ensures { Scheduled (mode_in front.now channels.now) judged result }
+// Schedules a mode that is not refused by its judgement.
+pub fn schedule(mode: &InMemory, judged: Judgement) -> Result<Timetable, Late>
+    requires { Judged (mode_of mode.now) (Ok judged) }
+    ensures { Scheduled (mode_of mode.now) judged result }
 {
-    let head = head_of(front);
-    let periods = judged.periods;
-    let depths = judged.depths;
-    let firings = judged.firings;
-    let sink = judged.sink;
-    let starts = starts::starts_of(front, channels, periods, depths);
-    let startup = starts[sink];
-    if let Timing::Late(actor) = starts::late(starts, head.active, startup) {
-        return refused(actor);
+    let starts = starts::starts_of(mode, judged.periods, judged.depths);
+    let startup = starts[judged.sink];
+    if let Some(actor) = starts::late(starts, mode.active(), startup) {
+        return Err(Late { actor });
     }
-    Timetable {
-        timing: Timing::OnTime,
+    Ok(Timetable {
         startup,
         starts,
-        sizes: sizes::sizes_of(front, channels, periods, starts),
-        tokens: sizes::tokens_of(front, channels, firings),
-    }
+        sizes: sizes::sizes_of(mode, judged.periods, starts),
+        tokens: sizes::tokens_of(mode, judged.firings),
+    })
 }

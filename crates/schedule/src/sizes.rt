@@ -1,67 +1,64 @@
 // The size of each channel of a mode, and its tokens.
-ghost use Rattle.std.specs.Prelude.{◌≡◌, ◌≤◌, length, take};
-ghost use Rattle.units.specs.Products.{MOST_COUNTED};
-ghost use Rattle.units.specs.Limits.{PHASES};
+ghost use Rattle.std.specs.Prelude.{◌≡◌};
 ghost use Rattle.units.specs.Tokens.{token};
-ghost use Rattle.rate.specs.Rate.{tokens_of};
-ghost use Rattle.tables.specs.Memory.{mode_in, Stands};
+ghost use Rattle.tables.specs.Stored.{mode_of};
 ghost use Rattle.graph.specs.Lengths.{Few};
 ghost use Rattle.schedule.specs.Scheduled.{Sizes, of_channels, tokens_on};
-ghost use Rattle.schedule.specs.Reached.{start_at, Fits};
+ghost use Rattle.schedule.specs.Reached.{start_at, Fits, SizeAt, tokens_at};
 
-use crate::ends::{gives_of, takes_of};
+use crate::ends::end_of;
 use channel::size;
-use tables::memory::{actor_at, channel_at, head_of};
-use units::limits::{ACTORS, CHANNELS, PHASES};
+use std::array;
+use tables::memory::InMemory;
+use units::limits::{ACTORS, CHANNELS};
 use units::{Firing, Tick, Token};
+
+// The size of channel k's buffer; none, as a plan's words have it, where there is no channel.
+fn size_at(mode: &InMemory, periods: &[Tick], starts: &[Tick], k: usize) -> Token
+    requires { Fits (mode_of mode.now) periods.now starts.now }
+    ensures { SizeAt (mode_of mode.now) periods.now (start_at starts.now) k result }
+{
+    if mode.count() <= k {
+        return Token::NONE;
+    }
+    let channel = mode.channel(k);
+    let from = channel.from;
+    let to = channel.to;
+    let producer = end_of(mode.actor(from), channel.production, periods[from]);
+    let consumer = end_of(mode.actor(to), channel.consumption, periods[to]);
+    size(producer, starts[from], consumer, starts[to])
+}
 
 // The size of each channel's buffer.
 pub(crate) fn sizes_of(
-    front: &[u64],
-    channels: &[u8],
+    mode: &InMemory,
     periods: [Tick; ACTORS],
     starts: [Tick; ACTORS],
 ) -> [Token; CHANNELS]
-    requires { Stands front.now channels.now × Fits (mode_in front.now channels.now) periods starts }
-    ensures { Sizes (mode_in front.now channels.now) periods (start_at starts) result }
+    requires { Fits (mode_of mode.now) periods starts }
+    ensures { Sizes (mode_of mode.now) periods (start_at starts) result }
 {
-    let head = head_of(front);
-    let mut sizes = [Token::NONE; CHANNELS];
-    for k in 0..head.count {
-        let channel = channel_at(channels, k);
-        let from = channel.from;
-        let to = channel.to;
-        let producer = gives_of(channel, actor_at(front, from), periods[from]);
-        let consumer = takes_of(channel, actor_at(front, to), periods[to]);
-        sizes[k] = size(producer, starts[from], consumer, starts[to]);
-    }
-    sizes
+    array::from_fn(|k| size_at(mode, &periods, &starts, k))
 }
 
-// What so many firings of a producer make.
-fn made(phases: usize, rates: [u8; PHASES], firings: Firing) -> Token
-    requires { (phases ≤ PHASES) × (length rates ≡ PHASES) × (firings.0 ≤ MOST_COUNTED.0) }
-    ensures { result ≡ tokens_of (take phases rates) firings }
+// The tokens of channel k in an iteration; none, as a plan's words have it, where there is no channel.
+fn tokens_at(mode: &InMemory, firings: &[Firing], k: usize) -> Token
+    requires { Few firings.now }
+    ensures { result ≡ tokens_at (mode_of mode.now) firings.now k }
 {
-    rate::tokens(&rates[..phases], firings)
+    if mode.count() <= k {
+        return Token::NONE;
+    }
+    let channel = mode.channel(k);
+    let from = channel.from;
+    let actor = mode.actor(from);
+    rate::tokens(&channel.production[..actor.phases], firings[from])
 }
 
-pub(crate) fn tokens_of(
-    front: &[u64],
-    channels: &[u8],
-    firings: [Firing; ACTORS],
-) -> [Token; CHANNELS]
-    requires { Stands front.now channels.now × Few firings }
-    ensures { result ≡ of_channels (mode_in front.now channels.now) (tokens_on (mode_in front.now channels.now) firings) (token 0) }
+// The tokens of each channel in an iteration.
+pub(crate) fn tokens_of(mode: &InMemory, firings: [Firing; ACTORS]) -> [Token; CHANNELS]
+    requires { Few firings }
+    ensures { result ≡ of_channels (mode_of mode.now) (tokens_on (mode_of mode.now) firings) (token 0) }
 {
-    let head = head_of(front);
-    let mut tokens = [Token::NONE; CHANNELS];
-    for k in 0..head.count {
-        let channel = channel_at(channels, k);
-        let from = channel.from;
-        let actor = actor_at(front, from);
-        let production = channel.production;
-        tokens[k] = made(actor.phases, production, firings[from]);
-    }
-    tokens
+    array::from_fn(|k| tokens_at(mode, &firings, k))
 }

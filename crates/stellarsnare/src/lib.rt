@@ -2,48 +2,49 @@
 // The crate `stellarsnare_c` exports these functions.
 #![tactic(auto)]
 
-ghost use Rattle.std.specs.Prelude.{◌≡◌, true, false};
-ghost use Rattle.terms.specs.Refusal.{no_numbers, numbers_of};
-ghost use Rattle.stellarsnare.specs.Face.{three_of, PlanTold, StartTold, RequestTold, PrintTold};
+ghost use Rattle.std.specs.Prelude.{◌≡◌};
+ghost use Rattle.terms.specs.Refusal.{numbers_of};
+ghost use Rattle.stellarsnare.specs.Face.{three_of, Tells, PlanTold, StartTold, RequestTold, PrintTold};
 
-use machine::{Beginning, Machine, Reply};
-use planner::{Answer, Printing};
+use machine::Machine;
 use terms::refusal::Refusal;
 use units::Tick;
 
-fn accept(refusal: &mut [u64; 5]) -> bool
-    ensures { (result ≡ true) × (refusal.new ≡ no_numbers) }
+// The five numbers of a refusal's line.
+fn numbers(refusal: Refusal) -> [u64; 5]
+    ensures { result ≡ numbers_of refusal }
 {
-    *refusal = [0, 0, 0, 0, 0];
-    true
+    refusal.printed().five()
 }
 
-fn refuse(reason: Refusal, refusal: &mut [u64; 5]) -> bool
-    ensures { (result ≡ false) × (refusal.new ≡ numbers_of reason) }
+// What an answer gives, where it is no refusal; and its five numbers.
+fn told<T>(answer: Result<T, Refusal>, refusal: &mut [u64; 5]) -> Option<T>
+    ensures { Tells answer result refusal.new }
 {
-    let line = reason.printed();
-    *refusal = [line.number, line.row, line.mode, line.actor, line.processor];
-    false
+    match answer {
+        Ok(given) => {
+            *refusal = [0; 5];
+            Some(given)
+        }
+        Err(refused) => {
+            *refusal = numbers(refused);
+            None
+        }
+    }
 }
 
-// A machine as its mode, its starting tick and the tick at which its change ends.
+// A machine as its mode, its starting tick and the tick at which its change ends. No From: the machine knows nothing of the face for C.
 fn three(machine: Machine) -> [u64; 3]
     ensures { result ≡ three_of machine }
 {
-    let started = machine.started;
-    let ended = machine.ended;
-    [machine.mode, started.ticks(), ended.ticks()]
+    [machine.mode, machine.started.ticks(), machine.ended.ticks()]
 }
 
 // Plans the table of a text into the words.
 pub fn stellarsnare_plan(text: &[u8], words: &mut [u64], refusal: &mut [u64; 5]) -> bool
     ensures { PlanTold text.now words.old result words.new refusal.new }
 {
-    let answer = planner::plan(text, words);
-    match answer {
-        Answer::Accepted => accept(refusal),
-        Answer::Refused(reason) => refuse(reason, refusal),
-    }
+    told(planner::plan(text, words), refusal).is_some()
 }
 
 // Begins a machine, at tick 0 in the mode with this number; 0 stands for the lowest listed mode.
@@ -55,15 +56,11 @@ pub fn stellarsnare_start(
 ) -> bool
     ensures { StartTold words.now mode machine.old result machine.new refusal.new }
 {
-    let beginning = machine::start(words, mode);
-    match beginning {
-        Beginning::Begun(begun) => {
-            let first = three(begun);
-            *machine = first;
-            accept(refusal)
-        }
-        Beginning::Refused(reason) => refuse(reason, refusal),
-    }
+    let Some(begun) = told(machine::start(words, mode), refusal) else {
+        return false;
+    };
+    *machine = three(begun);
+    true
 }
 
 // Answers a machine's request for the mode with this number at a tick.
@@ -77,22 +74,18 @@ pub fn stellarsnare_request(
 ) -> bool
     ensures { RequestTold words.now machine.old mode clock delay.old result machine.new delay.new refusal.new }
 {
-    let from = Machine {
+    let before = Machine {
         mode: machine[0],
         started: Tick::of(machine[1]),
         ended: Tick::of(machine[2]),
     };
-    let answer = from.request(words, mode, Tick::of(clock));
-    let reply = answer.reply;
-    match reply {
-        Reply::Accepted(wait) => {
-            let next = three(answer.machine);
-            *machine = next;
-            *delay = wait.ticks();
-            accept(refusal)
-        }
-        Reply::Refused(reason) => refuse(reason, refusal),
-    }
+    let answer = before.request(words, mode, Tick::of(clock));
+    let Some(wait) = told(answer.reply, refusal) else {
+        return false;
+    };
+    *machine = three(answer.machine);
+    *delay = wait.ticks();
+    true
 }
 
 // Prints the plan that the words hold.
@@ -104,12 +97,9 @@ pub fn stellarsnare_print(
 ) -> bool
     ensures { PrintTold words.now out.old length.old result out.new length.new refusal.new }
 {
-    let printing = planner::print(words, out);
-    match printing {
-        Printing::Printed(bytes) => {
-            *length = bytes;
-            accept(refusal)
-        }
-        Printing::Refused(reason) => refuse(reason, refusal),
-    }
+    let Some(bytes) = told(planner::print(words, out), refusal) else {
+        return false;
+    };
+    *length = bytes;
+    true
 }

@@ -1,6 +1,7 @@
 -- What the proofs lean on.
 mod Shape
-mod Parts
+mod Ranged
 pub mod Remembered
 pub mod Housing
+pub mod Stored
 mod Settled

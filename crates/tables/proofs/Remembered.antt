@@ -1,16 +1,16 @@
 -- What stands in memory is what was put there. Assumes nothing.
 use mathlib.Core.Path.{◌≡◌, refl, sym, ap, ap₂, ◌∙◌}
 use mathlib.Core.List.{List, [], ◌∷◌, ◌++◌}
-use Prim.Native.Nat.{ℕ, zero, suc, ◌+◌, ◌*◌, ◌-◌, ◌%◌, ◌^◌, ◌≤◌, ◌<◌}
+use Prim.Native.Nat.{ℕ, zero, suc, ◌+◌, ◌*◌, ◌-◌, ◌%◌, ◌^◌, ◌<◌}
 use native.Mathlib.Decide.{dec_lt, ℕ_discrete}
-use native.Mathlib.Nat.{mod-eq_of_lt, not-suc-le-zero, mul-zero, mul-suc}
+use native.Mathlib.Nat.{mod-eq_of_lt, mul-zero, mul-suc}
 use native.Mathlib.Omega.{arith}
 use borrow.Rule.Slice.PartMut.{put_mid}
-use lib.ListN.{length, get_or, set, take, drop, length-append, length-take, length-drop, take-append-drop, get_or-append, length-set, replicate, length-replicate, get_or-replicate, replicate-append-replicate}
-use lib.Seq.{get_or-set_same, get_or-set_other, ext_get_or, take_all, get_or-append-add, get_or-take, get_or-drop, drop-drop, drop-set-lt}
+use lib.ListN.{length, get_or, set, take, drop, length-append, length-take, length-drop, take-append-drop, get_or-append, replicate, get_or-replicate, replicate-append-replicate}
+use lib.Seq.{get_or-set_same, get_or-set_other, take_all, get_or-append-add, get_or-take, get_or-drop, drop-drop, drop-set-lt}
 use Rattle.numbers.specs.Bits.{adding}
 use Rattle.numbers.specs.Joined.{joined, part, get_d_part, joined_same, joined_part, length_joined, get_or_joined}
-use Rattle.numbers.specs.Tab.{tab, stretch_of, length_tab, get_or_tab, is_tab, tab_same, filled_more, get_or_replicated, placing, placing_there, placing_aside}
+use Rattle.numbers.specs.Tab.{tab, stretch_of, length_tab, get_or_tab, is_tab, tab_same, placing, placing_there, placing_aside}
 use Rattle.numbers.proofs.Laid.{part_is, parts_joined, put_second, joined_put, stretch_is}
 use Rattle.units.specs.Firings.{firing}
 use Rattle.units.specs.Ticks.{tick}
@@ -87,14 +87,6 @@ module _ (f : List ℕ) (long : length f ≡ FRONT_WORDS) where
 -- the bytes of a channel, as they stand
 abbrev raw_channel : List ℕ → List ℕ
 raw_channel l = tab CHANNEL_BYTES (λ j. get_or l j 0)
-
--- the first three words of an actor, stored one by one
-pub actor_stored : (l : List ℕ) (a : Actor) (wcet : ℕ) → length l ≡ ACTOR_WORDS → wcet ≡ a.wcet.0
-    → set (set (set l 0 a.phases) 1 wcet) 2 a.processor ≡ actor_words a (times_of l)
-unfolding tab
-actor_stored l a wcet long e =
-    ap (λ (l : List ℕ). set (set (set l 0 a.phases) 1 wcet) 2 a.processor) (is_tab ACTOR_WORDS (λ j. get_or l j 0) l 0 long (λ j h. refl))
-    ∙ ap (λ (n : ℕ). a.phases ∷ (n ∷ (a.processor ∷ (get_or l 3 0 ∷ get_or l 4 0 ∷ get_or l 5 0 ∷ [])))) e
 
 -- the bytes of a channel, stored one after the other
 pub channel_stored : (l : List ℕ) (c : Channel) → length l ≡ CHANNEL_BYTES → length c.production ≡ PHASES → length c.consumption ≡ PHASES
@@ -227,22 +219,6 @@ actor_in_law f l i h = get_or_tab ACTORS (actor_in f) i no_actor h
 
 pub channel_in_law : (f l : List ℕ) (k : ℕ) → k < CHANNELS → channel_at (mode_in f l) k ≡ channel_in l k
 channel_in_law f l k h = get_or_tab CHANNELS (channel_in l) k no_channel h
-
--- a list that is cleared from the front: its first k elements are 0
-pub record Cleared (before now : List ℕ) (k : ℕ) : Type 0 where
-  pub long : length now ≡ length before
-  pub zeros : (j : ℕ) → j < k → get_or now j 0 ≡ 0
-
-pub cleared_none : (l : List ℕ) → Cleared l l 0
-cleared_none l = record { long = refl; zeros = λ j h. absurd (not-suc-le-zero h) }
-
-pub cleared_more : (l m : List ℕ) (k : ℕ) → k < length l → Cleared l m k → Cleared l (set m k 0) (k + 1)
-cleared_more l m k h c =
-    record { long = length-set m k 0 ∙ c.long; zeros = filled_more (λ j. 0) m k 0 0 (omega (arith, c.long)) refl c.zeros }
-
-pub cleared_all : (l m : List ℕ) (k : ℕ) → length l ≤ k → Cleared l m k → m ≡ replicate (length l) 0
-cleared_all l m k h c =
-    ext_get_or 0 m (replicate (length l) 0) (c.long ∙ sym (length-replicate {A = ℕ} (length l) 0)) (λ j b. c.zeros j (omega (arith, c.long)) ∙ sym (get_or_replicated {A = ℕ} (length l) j 0))
 
 -- zeros behind zeros
 abbrev zeros : ℕ → List ℕ

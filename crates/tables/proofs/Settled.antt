@@ -1,10 +1,11 @@
--- Each public function's statement admits one answer only; those that list an actor or a channel settle the memory that is left.
+-- Each public function's statement admits one answer only; those that list an actor or a channel settle the memory that is left, and `new` the mode that it is of.
 use mathlib.Core.Path.{◌≡◌, sym, ◌∙◌}
 use contract.Lifetimes.{Lfts}
 use denote.Triple.Clauses.{AtExit}
 use borrow.Fn.Kinds.{Dens, res_t, ended_of}
 use Rattle.numbers.proofs.Settles.{Settles}
 use Rattle.numbers.specs.Decides.{decides_unique}
+use Rattle.tables.specs.Stored.{mode_of}
 use Rattle.tables.proofs.homes.at_home.Kinds as at_home_kinds
 use Rattle.tables.proofs.homes.at_home.Reads as at_home
 use Rattle.tables.proofs.homes.housed.Kinds as housed_kinds
@@ -27,6 +28,16 @@ use Rattle.tables.proofs.memory.clear.Kinds as clear_kinds
 use Rattle.tables.proofs.memory.clear.Reads as clear
 use Rattle.tables.proofs.memory.clear_bytes.Kinds as clear_bytes_kinds
 use Rattle.tables.proofs.memory.clear_bytes.Reads as clear_bytes
+use Rattle.tables.proofs.memory.InMemory.new.Kinds as in_memory_new_kinds
+use Rattle.tables.proofs.memory.InMemory.new.Reads as in_memory_new
+use Rattle.tables.proofs.memory.InMemory.active.Kinds as in_memory_active_kinds
+use Rattle.tables.proofs.memory.InMemory.active.Reads as in_memory_active
+use Rattle.tables.proofs.memory.InMemory.count.Kinds as in_memory_count_kinds
+use Rattle.tables.proofs.memory.InMemory.count.Reads as in_memory_count
+use Rattle.tables.proofs.memory.InMemory.actor.Kinds as in_memory_actor_kinds
+use Rattle.tables.proofs.memory.InMemory.actor.Reads as in_memory_actor
+use Rattle.tables.proofs.memory.InMemory.channel.Kinds as in_memory_channel_kinds
+use Rattle.tables.proofs.memory.InMemory.channel.Reads as in_memory_channel
 use Rattle.tables.proofs.proper.proper_mode.Kinds as proper_mode_kinds
 use Rattle.tables.proofs.proper.proper_mode.Reads as proper_mode
 
@@ -71,3 +82,20 @@ clear_settled κs a x y s t p q = p ∙ sym q
 clear_bytes_settled : (κs : Lfts 1) (a : Dens κs clear_bytes_kinds.ps) (x y : (res_t clear_bytes_kinds.r κs).Denot) (s t : AtExit (ended_of 1 clear_bytes_kinds.ps clear_bytes_kinds.r) κs)
     → clear_bytes.Post κs a x s → clear_bytes.Post κs a y t → s.0.now ≡ t.0.now
 clear_bytes_settled κs a x y s t p q = p ∙ sym q
+
+new_settled : (κs : Lfts 1) (a : Dens κs in_memory_new_kinds.ps) (x y : (res_t in_memory_new_kinds.r κs).Denot)
+    (s t : AtExit (ended_of 1 in_memory_new_kinds.ps in_memory_new_kinds.r) κs)
+    → in_memory_new.Post κs a x s → in_memory_new.Post κs a y t → mode_of x ≡ mode_of y
+new_settled κs a x y s t p q = p ∙ sym q
+
+active_settled : Settles 2 in_memory_active_kinds.ps in_memory_active_kinds.r in_memory_active.Post
+active_settled κs a x y s t p q = p ∙ sym q
+
+count_settled : Settles 2 in_memory_count_kinds.ps in_memory_count_kinds.r in_memory_count.Post
+count_settled κs a x y s t p q = p ∙ sym q
+
+actor_settled : Settles 2 in_memory_actor_kinds.ps in_memory_actor_kinds.r in_memory_actor.Post
+actor_settled κs a x y s t p q = p ∙ sym q
+
+channel_settled : Settles 2 in_memory_channel_kinds.ps in_memory_channel_kinds.r in_memory_channel.Post
+channel_settled κs a x y s t p q = p.0 ∙ sym q.0

@@ -4,3 +4,4 @@ pub mod Proper
 pub mod Grown
 pub mod Memory
 pub mod Parts
+pub mod Stored

@@ -1,5 +1,5 @@
 -- The parts of what it is for a table to be proper, as the code goes through them.
-use Rattle.std.specs.Prelude.{◌≡◌, cond, List, ℕ, ◌≤◌, ◌<◌, eqb, length, get_or}
+use Rattle.std.specs.Prelude.{◌≡◌, cond, List, ℕ, ◌≤◌, ◌<◌, eqb, length, get_or, Option, None, Some}
 use Rattle.numbers.specs.Bits.{Has}
 use Rattle.numbers.specs.Tab.{tab}
 use Rattle.units.specs.Limits.{ACTORS, PHASES, MOST_RATE}
@@ -25,12 +25,17 @@ abbrev pub ChannelLeft : Mode → ℕ → Type 0
 ChannelLeft m k = m.count ≤ k → channel_at m k ≡ empty_channel
 
 -- actor i is on its home, where it has one
-abbrev pub AtHome : List ℕ → List Actor → ℕ → Type 0
-AtHome homes actors i = 0 < get_or homes i 0 → 0 < (get_or actors i no_actor).processor → get_or homes i 0 ≡ (get_or actors i no_actor).processor
+abbrev pub AtHome : List (Option ℕ) → List Actor → ℕ → Type 0
+AtHome homes actors i = (h : ℕ) → get_or homes i None ≡ Some h → 0 < (get_or actors i no_actor).processor → h ≡ (get_or actors i no_actor).processor
+
+-- the home that an actor gives itself: its processor, where there is an actor
+abbrev pub given : ℕ → Option ℕ
+given processor = cond (eqb processor 0) None (Some processor)
 
 -- the homes, with those that the actors give where there are none
-abbrev pub home_of : ℕ → ℕ → ℕ
-home_of home processor = cond (eqb home 0) processor home
+abbrev pub home_of : Option ℕ → ℕ → Option ℕ
+home_of None processor = given processor
+home_of (Some home) processor = Some home
 
-abbrev pub housed_of : List ℕ → List Actor → List ℕ
-housed_of homes actors = tab ACTORS (λ i. home_of (get_or homes i 0) (get_or actors i no_actor).processor)
+abbrev pub housed_of : List (Option ℕ) → List Actor → List (Option ℕ)
+housed_of homes actors = tab ACTORS (λ i. home_of (get_or homes i None) (get_or actors i no_actor).processor)

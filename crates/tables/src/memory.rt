@@ -2,14 +2,15 @@
 ghost use Rattle.std.specs.Prelude.{◌≡◌, ◌+◌, ◌<◌, length, set, replicate};
 ghost use Rattle.numbers.specs.Tab.{placing};
 ghost use Rattle.units.specs.Limits.{ACTORS as ACTORS_LIMIT, CHANNELS as CHANNELS_LIMIT, PHASES as PHASES_LIMIT};
-ghost use Rattle.tables.specs.Memory.{ACTOR_WORDS, FRONT_WORDS, CHANNEL_BYTES, CHANNELS_BYTES, head_in, actor_in, times_of, times_in, channel_in, actor_words, front_words, channel_bytes, channels_bytes, with_active};
+ghost use Rattle.tables.specs.Memory.{ACTOR_WORDS, FRONT_WORDS, CHANNEL_BYTES, CHANNELS_BYTES, head_in, actor_in, times_of, times_in, channel_in, actor_words, front_words, channel_bytes, channels_bytes, with_active, Stands};
 
 use crate::{Actor, Channel};
 use bits::with;
 use units::limits::{ACTORS, CHANNELS, MODES, PHASES};
 use units::{Firing, Tick};
 
-// The words of a mode's own numbers, of an actor and of a front; the bytes of a channel and of all channels.
+// The words of a mode's own numbers, of an actor and of a front; the bytes of a channel and of all channels. Places are reckoned from them, since memory is lent as one array (docs/PLAN.md).
+// A front is lent as a slice, and its length stands in each contract: it is cut from the words of all modes, and read too where it may be no mode's.
 pub const HEAD_WORDS: usize = 5;
 
 pub const ACTOR_WORDS: usize = 6;
@@ -33,6 +34,7 @@ pub const TABLE_BYTES: usize = CHANNELS_BYTES * MODES;
 const SETS: u64 = 1 << ACTORS;
 
 // A mode's own numbers: the set of its active actors, how many channels it has, its iteration, and the places of its source and its sink.
+// Where no actor is active the mode is not listed (docs/PLAN.md).
 #[derive(Drop)]
 pub struct Head {
     pub active: u16,
@@ -90,15 +92,16 @@ pub fn times_at(front: &[u64], i: usize) -> Times
     }
 }
 
-// The words of an actor, with what is planned of it as it stood.
+// The words of an actor, with what is planned of it as it stood. No From: the words are written in place, and those of the plan stay.
 fn put_actor(words: &mut [u64], actor: Actor)
     requires { length words.old ≡ ACTOR_WORDS }
     ensures { words.new ≡ actor_words actor (times_of words.old) }
 {
-    let wcet = actor.wcet;
-    words[0] = actor.phases as u64;
-    words[1] = wcet.ticks();
-    words[2] = actor.processor as u64;
+    words[0..3].copy_from_slice(&[
+        actor.phases as u64,
+        actor.wcet.ticks(),
+        actor.processor as u64,
+    ]);
 }
 
 // Lists an actor at place i.
@@ -113,14 +116,13 @@ pub fn list_actor(front: &mut [u64], i: usize, actor: Actor)
     put_actor(&mut front[a..e], actor);
 }
 
+// The rates that bytes hold, by the library's copy: `try_from` would add an error that can't come.
 fn rates_of(bytes: &[u8]) -> [u8; PHASES]
     requires { length bytes.now ≡ PHASES_LIMIT }
     ensures { result ≡ bytes.now }
 {
     let mut rates = [0u8; PHASES];
-    for k in 0..PHASES {
-        rates[k] = bytes[k];
-    }
+    rates.copy_from_slice(bytes);
     rates
 }
 
@@ -143,24 +145,13 @@ pub fn channel_at(channels: &[u8], k: usize) -> Channel
     }
 }
 
-fn put_rates(rates: [u8; PHASES], bytes: &mut [u8])
-    requires { (length rates ≡ PHASES_LIMIT) × (length bytes.old ≡ PHASES_LIMIT) }
-    ensures { bytes.new ≡ rates }
-{
-    for k in 0..PHASES {
-        bytes[k] = rates[k];
-    }
-}
-
-// The bytes of a channel.
+// The bytes of a channel. No From: they are written in place.
 fn put_channel(channel: Channel, bytes: &mut [u8])
     requires { (length bytes.old ≡ CHANNEL_BYTES) × (channel.from < ACTORS_LIMIT) × (channel.to < ACTORS_LIMIT) }
     ensures { bytes.new ≡ channel_bytes channel }
 {
-    let production = channel.production;
-    let consumption = channel.consumption;
-    put_rates(production, &mut bytes[MADE_AT..TAKEN_AT]);
-    put_rates(consumption, &mut bytes[TAKEN_AT..CHANNEL_BYTES]);
+    bytes[MADE_AT..TAKEN_AT].copy_from_slice(&channel.production);
+    bytes[TAKEN_AT..CHANNEL_BYTES].copy_from_slice(&channel.consumption);
     bytes[0] = channel.from as u8;
     bytes[1] = channel.to as u8;
 }
@@ -177,20 +168,70 @@ pub fn list_channel(front: &mut [u64], channels: &mut [u8], channel: Channel)
     put_channel(channel, &mut channels[a..e]);
 }
 
-// Nothing but 0 in words.
+// Nothing but 0 in words. Words and bytes each have a function, of one line: a generic one would need a law that says what 0 is in both.
 pub fn clear(words: &mut [u64])
     ensures { words.new ≡ replicate (length words.old) 0 }
 {
-    for k in 0..words.len() {
-        words[k] = 0;
-    }
+    words.fill(0);
 }
 
 // Nothing but 0 in bytes.
 pub fn clear_bytes(bytes: &mut [u8])
     ensures { bytes.new ≡ replicate (length bytes.old) 0 }
 {
-    for k in 0..bytes.len() {
-        bytes[k] = 0;
+    bytes.fill(0);
+}
+
+// A mode in memory that rows can give: its front and the bytes of its channels.
+#[derive(Clone, Copy)]
+pub struct InMemory<'a> {
+    front: &'a [u64],
+    channels: &'a [u8],
+    ghost stands: { ∥ Stands front.now channels.now ∥₁ },
+}
+
+impl<'a> InMemory<'a> {
+    ghost use Rattle.tables.specs.Memory.{mode_in};
+    ghost use Rattle.tables.specs.Shape.{actor_at, channel_at};
+    ghost use Rattle.tables.specs.Proper.{ProperChannel};
+    ghost use Rattle.tables.specs.Stored.{mode_of};
+
+    // That of a front and of channels.
+    pub fn new(front: &'a [u64], channels: &'a [u8]) -> Self
+        requires { Stands front.now channels.now }
+        ensures { mode_of result ≡ mode_in front.now channels.now }
+    {
+        InMemory { front, channels }
+    }
+
+    // The set of its active actors.
+    pub fn active(&self) -> u16
+        ensures { result ≡ (mode_of self.now).active }
+    {
+        head_of(self.front).active
+    }
+
+    // How many channels it has.
+    pub fn count(&self) -> usize
+        ensures { result ≡ (mode_of self.now).count }
+    {
+        head_of(self.front).count
+    }
+
+    // Actor i.
+    pub fn actor(&self, i: usize) -> Actor
+        requires { i < ACTORS_LIMIT }
+        ensures { result ≡ actor_at (mode_of self.now) i }
+    {
+        actor_at(self.front, i)
+    }
+
+    // Channel k.
+    pub fn channel(&self, k: usize) -> Channel
+        requires { k < (mode_of self.now).count }
+        ensures is { result ≡ channel_at (mode_of self.now) k }
+        ensures proper { ProperChannel (mode_of self.now) result }
+    {
+        channel_at(self.channels, k)
     }
 }

@@ -1,79 +1,54 @@
 -- The numbers of the refusals, and what is printed of one, case by case.
+use Rattle.terms.specs.declared.refusal.Reason.{Reason}
+use Rattle.terms.specs.declared.refusal.Reason.TheVariants.{Unreadable, BadField, Mislisted, Elsewhere, BadRates, Cycle, NoEnds, NoBalance, Overload, Late, NoMode, SameMode, PastClock, Unended, NoPlan, NoMachine}
 use Rattle.terms.specs.declared.refusal.Place.{Place}
 use Rattle.terms.specs.declared.refusal.Place.TheVariants.{Nowhere, Row, Mode, Actor, Processor}
 use Rattle.terms.specs.declared.refusal.Refusal.{Refusal}
 use Rattle.terms.specs.declared.refusal.Printed.{Printed}
 use Rattle.std.specs.Prelude.{List, [], ◌∷◌, ℕ}
 
--- The numbers of the refusals.
-
+-- the numbers of the refusals
+abbrev pub number_of : Reason → ℕ
 -- the text is empty or too long, or a record is not RFC 4180 or has not the fields of a row
-abbrev pub UNREADABLE : ℕ
-UNREADABLE = 1
-
+number_of Unreadable = 1
 -- the first field is unknown, or a number is badly written or out of its range
-abbrev pub BAD_FIELD : ℕ
-BAD_FIELD = 2
-
+number_of BadField = 2
 -- an actor is listed twice in a mode, an end of a channel is not yet listed in it, or it has a channel too many
-abbrev pub MISLISTED : ℕ
-MISLISTED = 3
-
+number_of Mislisted = 3
 -- an actor is on another processor than in an earlier row
-abbrev pub ELSEWHERE : ℕ
-ELSEWHERE = 4
-
+number_of Elsewhere = 4
 -- a list of rates is not as long as its actor has phases, or all of it is 0
-abbrev pub BAD_RATES : ℕ
-BAD_RATES = 5
-
+number_of BadRates = 5
 -- the channels of a mode form a cycle
-abbrev pub CYCLE : ℕ
-CYCLE = 6
-
+number_of Cycle = 6
 -- a mode has not exactly one actor without incoming channels, and one without outgoing ones
-abbrev pub NO_ENDS : ℕ
-NO_ENDS = 7
-
+number_of NoEnds = 7
 -- a mode has no balance within range
-abbrev pub NO_BALANCE : ℕ
-NO_BALANCE = 8
-
+number_of NoBalance = 8
 -- the load of a processor is above its limit
-abbrev pub OVERLOAD : ℕ
-OVERLOAD = 9
-
+number_of Overload = 9
 -- an actor starts later than the sink
-abbrev pub LATE : ℕ
-LATE = 10
-
+number_of Late = 10
 -- a mode is not in the plan
-abbrev pub NO_MODE : ℕ
-NO_MODE = 11
-
+number_of NoMode = 11
 -- the mode that is asked for is the one now running
-abbrev pub SAME_MODE : ℕ
-SAME_MODE = 12
-
+number_of SameMode = 12
 -- the clock is past its limit
-abbrev pub PAST_CLOCK : ℕ
-PAST_CLOCK = 13
-
+number_of PastClock = 13
 -- the current change has not ended
-abbrev pub UNENDED : ℕ
-UNENDED = 14
-
+number_of Unended = 14
 -- a buffer has not the one length, or is not what some accepted table leaves
-abbrev pub NO_PLAN : ℕ
-NO_PLAN = 15
-
+number_of NoPlan = 15
 -- the machine's mode is not in the plan, or its starting tick is after the end of its change
-abbrev pub NO_MACHINE : ℕ
-NO_MACHINE = 16
+number_of NoMachine = 16
 
--- the refusal with this number and this place
-abbrev pub refusal_at : ℕ → Place → Refusal
-refusal_at n p = record { number = n; place = p }
+-- the refusal for this reason, at this place
+abbrev pub refusal_at : Reason → Place → Refusal
+refusal_at r p = record { reason = r; place = p }
+
+-- the refusal for this reason, at no place of a table
+abbrev pub nowhere_for : Reason → Refusal
+nowhere_for r = refusal_at r Nowhere
 
 -- a line of five numbers
 abbrev pub line_of : ℕ → ℕ → ℕ → ℕ → ℕ → Printed
@@ -88,7 +63,7 @@ printed_at n (Actor m a) = line_of n 0 m a 0
 printed_at n (Processor m p) = line_of n 0 m 0 p
 
 abbrev pub printed_of : Refusal → Printed
-printed_of r = printed_at r.number r.place
+printed_of r = printed_at (number_of r.reason) r.place
 
 -- the five numbers of a line: number, row, mode, actor, processor
 abbrev pub five : Printed → List ℕ

@@ -1,5 +1,5 @@
-// Places and numbers: modes, actors and processors have numbers from 1 in a table and in what is printed; in memory the one with number n stands at
-// place n - 1.
+// Places and numbers: modes, actors and processors have numbers from 1 in a table and in what is printed; in a list that has one place for each of them,
+// the one with number n stands at place n - 1.
 ghost use Rattle.std.specs.Prelude.{◌≡◌, ◌^◌, ◌<◌, ◌≤◌};
 ghost use Rattle.terms.specs.Place.{number_of, place_of};
 

@@ -1,4 +1,5 @@
 -- What belongs to no one function.
+mod CountsSettled
 mod TicksSettled
 mod FiringsSettled
 mod TokensSettled

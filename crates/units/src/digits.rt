@@ -11,59 +11,44 @@ const MOST_CARRIED: u64 = MOST_FIRINGS.0 * MOST_RATE.0;
 
 const MOST_SIZE: u64 = (2 * MOST_START + 3 * ITERATION_LIMIT.0 + 3) * (PHASES as u64 * MOST_RATE.0);
 
-// The powers of ten.
-const TENS: [u64; 20] = [
-    1,
-    10,
-    100,
-    1000,
-    10000,
-    100000,
-    1000000,
-    10000000,
-    100000000,
-    1000000000,
-    10000000000,
-    100000000000,
-    1000000000000,
-    10000000000000,
-    100000000000000,
-    1000000000000000,
-    10000000000000000,
-    100000000000000000,
-    1000000000000000000,
-    10000000000000000000,
-];
+// A number has as many digits as there are powers of ten that are no greater. (A macro, since a constant calls no function.)
+macro_rules! digits {
+    ($number:expr) => {
+        ($number >= 1) as usize
+            + ($number >= 10) as usize
+            + ($number >= 100) as usize
+            + ($number >= 1000) as usize
+            + ($number >= 10000) as usize
+            + ($number >= 100000) as usize
+            + ($number >= 1000000) as usize
+            + ($number >= 10000000) as usize
+            + ($number >= 100000000) as usize
+            + ($number >= 1000000000) as usize
+            + ($number >= 10000000000) as usize
+            + ($number >= 100000000000) as usize
+            + ($number >= 1000000000000) as usize
+            + ($number >= 10000000000000) as usize
+            + ($number >= 100000000000000) as usize
+            + ($number >= 1000000000000000) as usize
+            + ($number >= 10000000000000000) as usize
+            + ($number >= 100000000000000000) as usize
+            + ($number >= 1000000000000000000) as usize
+            + ($number >= 10000000000000000000) as usize
+    };
+}
 
-// A number of b bits has b * 3 / 10 digits, or one more.
-const MODE_LOW: usize = (64 - u64::leading_zeros(MODES as u64) as usize) * 3 / 10;
+pub const MODE: usize = digits!(MODES as u64);
 
-pub const MODE: usize = MODE_LOW + (TENS[MODE_LOW] <= MODES as u64) as usize;
+pub const ACTOR: usize = digits!(ACTORS as u64);
 
-const ACTOR_LOW: usize = (64 - u64::leading_zeros(ACTORS as u64) as usize) * 3 / 10;
+pub const FIRINGS: usize = digits!(MOST_FIRINGS.0);
 
-pub const ACTOR: usize = ACTOR_LOW + (TENS[ACTOR_LOW] <= ACTORS as u64) as usize;
+pub const PERIOD: usize = digits!(ITERATION_LIMIT.0);
 
-const FIRINGS_LOW: usize = (64 - u64::leading_zeros(MOST_FIRINGS.0) as usize) * 3 / 10;
+pub const START: usize = digits!(MOST_START);
 
-pub const FIRINGS: usize = FIRINGS_LOW + (TENS[FIRINGS_LOW] <= MOST_FIRINGS.0) as usize;
+pub const DELAY: usize = digits!(MOST_DELAY);
 
-const PERIOD_LOW: usize = (64 - u64::leading_zeros(ITERATION_LIMIT.0) as usize) * 3 / 10;
+pub const CARRIED: usize = digits!(MOST_CARRIED);
 
-pub const PERIOD: usize = PERIOD_LOW + (TENS[PERIOD_LOW] <= ITERATION_LIMIT.0) as usize;
-
-const START_LOW: usize = (64 - u64::leading_zeros(MOST_START) as usize) * 3 / 10;
-
-pub const START: usize = START_LOW + (TENS[START_LOW] <= MOST_START) as usize;
-
-const DELAY_LOW: usize = (64 - u64::leading_zeros(MOST_DELAY) as usize) * 3 / 10;
-
-pub const DELAY: usize = DELAY_LOW + (TENS[DELAY_LOW] <= MOST_DELAY) as usize;
-
-const CARRIED_LOW: usize = (64 - u64::leading_zeros(MOST_CARRIED) as usize) * 3 / 10;
-
-pub const CARRIED: usize = CARRIED_LOW + (TENS[CARRIED_LOW] <= MOST_CARRIED) as usize;
-
-const SIZE_LOW: usize = (64 - u64::leading_zeros(MOST_SIZE) as usize) * 3 / 10;
-
-pub const SIZE: usize = SIZE_LOW + (TENS[SIZE_LOW] <= MOST_SIZE) as usize;
+pub const SIZE: usize = digits!(MOST_SIZE);

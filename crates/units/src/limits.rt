@@ -5,10 +5,12 @@ ghost use Rattle.units.specs.Limits.{all_limits};
 use crate::{Tick, Token};
 use numbers::fraction::Fraction;
 
+// The longest text, in bytes, and the fields of a record.
 pub const MOST_BYTES: usize = 65536;
 
 pub const FIELDS: usize = 6;
 
+// Modes, actors, channels of a mode, phases of an actor and processors are numbered from 1 to these.
 pub const MODES: usize = 8;
 
 pub const ACTORS: usize = 16;
@@ -19,14 +21,18 @@ pub const PHASES: usize = 8;
 
 pub const PROCESSORS: usize = 8;
 
+// The greatest wcet, and the greatest rate.
 pub const MOST_WCET: Tick = Tick(1048576);
 
 pub const MOST_RATE: Token = Token(255);
 
+// The longest iteration.
 pub const ITERATION_LIMIT: Tick = Tick(1073741824);
 
+// The last tick at which a request is answered.
 pub const CLOCK_LIMIT: Tick = Tick(4611686018427387904);
 
+// The most that a processor may be asked for, of its whole time.
 pub const LOAD_LIMIT: Fraction = Fraction { over: 1, under: 1 };
 
 // All the limits.

@@ -5,33 +5,19 @@
 use std::rt::{Env, Files};
 use units::limits::MOST_BYTES;
 
-fn is_table(word: &[u8]) -> bool {
-    let n = word.len();
-    if n < 4 {
-        return false;
-    }
-    let end = &word[n - 4..];
-    (end[0] == b'.') & (end[1] == b'c') & (end[2] == b's') & (end[3] == b'v')
-}
-
 // Whether argument i names a table.
-fn table_at(rt: &impl Env, i: usize) -> bool {
+fn is_table(rt: &impl Env, i: usize) -> bool {
     let mut word = [0u8; 256];
-    let Ok(k) = rt.arg(i, &mut word) else {
-        return false;
-    };
-    is_table(&word[..k])
+    match rt.arg(i, &mut word) {
+        Ok(k) => word[..k].ends_with(b".csv"),
+        Err(_) => false,
+    }
 }
 
-// The place of the first argument from i on that names a table; the end where there is none.
+// The place of the first argument from i on that names a table; the end where there is none, so that what lies before it is then all.
 fn next_table(rt: &impl Env, i: usize) -> usize {
     let end = console::arg_count(rt);
-    for k in i..end {
-        if table_at(rt, k) {
-            return k;
-        }
-    }
-    end
+    (i..end).find(|&k| is_table(rt, k)).unwrap_or(end)
 }
 
 // The plan of the table that argument i names, or the call on it.
@@ -43,11 +29,9 @@ fn answer(rt: &(impl Env + Files + Print + Eprint), i: usize, first: usize) {
     console::write(rt, &path[..k]);
     console::write(rt, b"\r\n");
     let mut text = [0u8; MOST_BYTES + 1];
-    let input = console::read_file(rt, &path[..k], &mut text);
-    if !input.whole {
+    let Some(count) = console::read_file(rt, &path[..k], &mut text) else {
         return;
-    }
-    let count = input.count;
+    };
     let end = next_table(rt, first);
     if first == end {
         console::plan(rt, &text[..count]);
@@ -57,8 +41,9 @@ fn answer(rt: &(impl Env + Files + Print + Eprint), i: usize, first: usize) {
 }
 
 fn main(rt: HostRuntime) {
+    // i is an argument's number
     for i in 1..console::arg_count(&rt) {
-        if table_at(&rt, i) {
+        if is_table(&rt, i) {
             answer(&rt, i, i + 1);
         }
     }

@@ -9,7 +9,7 @@ pub slice_bounds-ask-end : goal.slice_bounds-ask-end
 slice_bounds-ask-end g c = sym (length-replicate {A = ℕ} (LINE * (32768 + 1)) 0)
 
 pub slice_bounds-out-end : goal.slice_bounds-out-end
-slice_bounds-out-end g c = (ask_counts c.ask.ensures c.in-Printed.is).0
+slice_bounds-out-end g c = (ask_counts c.in-Ok.ensures).0
 
 pub slice_bounds-write-end : goal.slice_bounds-write-end
-slice_bounds-write-end g c = (ask_counts c.ask.ensures c.in-Printed.is).1
+slice_bounds-write-end g c = (ask_counts c.in-Ok.ensures).1

@@ -1,5 +1,3 @@
-use Prim.Native.Nat.{◌-◌, ◌≤◌}
-use Rattle.units.specs.Limits.{MODES}
 use Rattle.tables.specs.Shape.{mode_at}
 use Rattle.planning.specs.Plan.{part_at}
 use Rattle.rfc4180.specs.Laid.{Laid}
@@ -9,7 +7,4 @@ use Rattle.printer.specs.Printed.{mode_text}
 use Rattle.printer.proofs.modes.Given as goal
 
 abbrev pub invariant-loop-m : goal.invariant-loop-m
-invariant-loop-m l = (l.m ≤ MODES) × Laid l.initial.out 0 (texts (λ m. mode_text m (mode_at (graph_of l.words) m) (part_at (plan_of l.words) m)) l.m) l.out l.at
-
-abbrev pub decreases-loop-m : goal.decreases-loop-m
-decreases-loop-m l = MODES - l.m
+invariant-loop-m l = Laid l.initial.out 0 (texts (λ m. mode_text m (mode_at (graph_of l.words) m) (part_at (plan_of l.words) m)) l.m) l.out l.at

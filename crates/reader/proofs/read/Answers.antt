@@ -4,18 +4,18 @@ use mathlib.Core.Logic.{inl, inr}
 use Prim.Native.Nat.{◌<◌}
 use native.Mathlib.Omega.{arith}
 use lib.ListN.{length}
-use Rattle.terms.specs.Refusal.{UNREADABLE}
+use Rattle.terms.specs.declared.refusal.Reason.TheVariants.{Unreadable}
 use Rattle.reader.specs.Told.{refused, wrong_length, right_length, Told}
 use Rattle.reader.proofs.Progress.{refused_into}
 use Rattle.reader.proofs.read.Goals as goal
 
 pub returns-then-length-eq0 : goal.returns-then-length-eq0
 returns-then-length-eq0 c =
-    refused_into (Told c.args.text.now) UNREADABLE 0 (refused UNREADABLE 0, wrong_length (inl c.if-length-eq0.true), refl) c.refused.ensures c.requires
+    refused_into (Told c.args.text.now) Unreadable 0 (refused Unreadable 0, wrong_length (inl c.if-length-eq0.true), refl) c.at_row.ensures c.requires
 
 pub returns-then-length-gt-MOST_BYTES : goal.returns-then-length-gt-MOST_BYTES
 returns-then-length-gt-MOST_BYTES c =
-    refused_into (Told c.args.text.now) UNREADABLE 0 (refused UNREADABLE 0, wrong_length (inr c.if-length-gt-MOST_BYTES.true), refl) c.refused-then-length-gt-MOST_BYTES.ensures c.requires
+    refused_into (Told c.args.text.now) Unreadable 0 (refused Unreadable 0, wrong_length (inr c.if-length-gt-MOST_BYTES.true), refl) c.at_row-then-length-gt-MOST_BYTES.ensures c.requires
 
 pub returns : goal.returns
 returns c =

@@ -1,9 +1,9 @@
 -- stellarsnare::stellarsnare_print meets its contract.
-use Rattle.stellarsnare.proofs.Telling.{print_accepted, print_refused}
+use Rattle.stellarsnare.proofs.Telling.{print_told, print_denied}
 use Rattle.stellarsnare.proofs.stellarsnare_print.Goals as goal
 
-pub returns-in-Printed : goal.returns-in-Printed
-returns-in-Printed c = print_accepted c.print-printing.ensures c.in-Printed.is c.accept.ensures
+pub returns-in_default : goal.returns-in_default
+returns-in_default c = print_denied c.print.ensures c.in_default.ensures
 
-pub returns-in-Refused : goal.returns-in-Refused
-returns-in-Refused c = print_refused c.print-printing.ensures c.in-Refused.is c.refuse.ensures
+pub returns : goal.returns
+returns c = print_told c.print.ensures c.in-Some.ensures

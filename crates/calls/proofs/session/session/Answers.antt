@@ -9,34 +9,27 @@ use Rattle.calls.proofs.session.session.Goals as goal
 
 pub answers-requires : goal.answers-requires
 answers-requires c =
-    let p = c.requires in (omega (arith, p.0, laid_length c.begun-at.ensures.laid), omega (arith, p.0, p.1, c.begun-at.ensures.short, laid_length c.begun-at.ensures.laid))
+    let p = c.requires in
+    let b = c.begun-at.ensures in record {
+      enough = omega (arith, p.enough, laid_length b.laid);
+      room = omega (arith, p.enough, p.from, b.short, laid_length b.laid);
+      good = p.good;
+    }
 
-pub returns-in-Begun : goal.returns-in-Begun
-returns-in-Begun c =
+pub returns-in-Ok : goal.returns-in-Ok
+returns-in-Ok c =
     let b = c.begun-at.ensures in let a = c.answers.ensures in let e = c.args in record {
-      text = machine_text c.in-Begun.machine ++ a.text;
-      meets = begun (subst (Begins e.words.now e.mode) c.in-Begun.is c.start.ensures) a.meets;
+      text = machine_text c.in-Ok.machine ++ a.text;
+      meets = begun (subst (Begins e.words.now e.mode) c.in-Ok.is c.start.ensures) a.meets;
       laid = laid_then b.laid a.laid;
       fits = omega (arith, a.fits, laid_length b.laid);
     }
 
-pub returns-in-Refused : goal.returns-in-Refused
-returns-in-Refused c =
+pub returns-in-Err : goal.returns-in-Err
+returns-in-Err c =
     let e = c.args in record {
       text = _;
-      meets = not_begun_law (subst (Begins e.words.now e.mode) c.in-Refused.is c.start.ensures);
+      meets = not_begun_law (subst (Begins e.words.now e.mode) c.in-Err.is c.start.ensures);
       laid = c.refused.ensures.laid;
-      fits = omega (arith, c.refused.ensures.short, c.requires.0);
+      fits = omega (arith, c.refused.ensures.short, c.requires.enough);
     }
-
-pub begun-at-requires : goal.begun-at-requires
-begun-at-requires c = omega (arith, c.requires.0)
-
-pub refused-requires : goal.refused-requires
-refused-requires c = omega (arith, c.requires.0)
-
-pub shape_of-out-in-Begun : goal.shape_of-out-in-Begun
-shape_of-out-in-Begun c = laid_length (returns-in-Begun c).laid
-
-pub shape_of-out-in-Refused : goal.shape_of-out-in-Refused
-shape_of-out-in-Refused c = laid_length (returns-in-Refused c).laid

@@ -6,14 +6,14 @@ use Rattle.units.specs.Limits.{ACTORS}
 use Rattle.units.specs.declared.Tick.{Tick}
 use Rattle.tables.specs.declared.Actor.{Actor}
 use Rattle.change.specs.Running.{running_in}
-use Rattle.change.proofs.Loads.{work_fits, work_more, work_no_more}
-use Rattle.change.proofs.Fronts.{actor_read, starts_since, starts_until, work_small, since_one, until_one}
-use Rattle.change.proofs.work.works_of.Goals.{else-actor-processor, then-actor-processor}
+use Rattle.change.proofs.Loads.{work_fits, work_more, work_elsewhere, work_uncounted}
+use Rattle.change.proofs.Fronts.{actor_read, starts_since, starts_until, since_is, until_is, work_small, counted}
+use Rattle.change.proofs.work.works_of.Goals.{then-actor-processor+then-at_most-2, then-actor-processor+else-at_most-2, else-actor-processor, then-at_most, else-at_most}
 use Rattle.change.proofs.work.works_of.Goals as goal
 
 pub loop-k-init : goal.loop-k-init
 unfolding sum
-loop-k-init c = (omega arith, refl, refl)
+loop-k-init c = (refl, refl)
 
 pub work-work-requires : goal.work-work-requires
 work-work-requires c =
@@ -21,42 +21,49 @@ work-work-requires c =
 
 pub plus-since-requires : goal.plus-since-requires
 plus-since-requires c =
-    let f = c.args.front.now in work_fits (running_in f) c.requires.1 c.args.processor (starts_since f c.args.start) c.loop-k.k (omega arith) c.loop-k.invariant.1
-    (since_one f c.loop-k.k (omega arith) c.actor_at-actor.ensures c.times_at-times.ensures c.args.processor c.args.start c.at_most.result c.if-actor-processor.true c.work-work.ensures c.counted.ensures c.at_most.ensures)
+    let s = c.args in let f = s.front.now in let a = c.actor_at-actor.ensures in let t = c.times_at-times.ensures in let below = c.loop-k-test.true in
+    let on = since_is f c.loop-k.k below a t s.start c.at_most.ensures ∙ c.if-at_most.true in
+    work_fits (running_in f) c.requires.1 s.processor (starts_since f s.start) c.loop-k.k below c.loop-k.invariant.0
+    (counted f c.loop-k.k below a t s.processor (starts_since f s.start) c.if-actor-processor.true on c.work-work.ensures)
 
 pub plus-until-requires : goal.plus-until-requires
 plus-until-requires c =
-    let f = c.args.front.now in work_fits (running_in f) c.requires.1 c.args.processor (starts_until f c.args.start) c.loop-k.k c.loop-k-test.true c.loop-k.invariant.2
-    (until_one f c.loop-k.k c.loop-k-test.true c.actor_at-actor.ensures c.times_at-times.ensures c.args.processor c.args.start c.at_most-then-actor-processor.result c.if-actor-processor.true c.work-work.ensures c.counted-then-actor-processor.ensures c.at_most-then-actor-processor.ensures)
+    let s = c.args in let f = s.front.now in let a = c.actor_at-actor.ensures in let t = c.times_at-times.ensures in let below = c.loop-k-test.true in
+    let on = until_is f c.loop-k.k below a t s.start c.at_most-then-actor-processor.ensures ∙ c.if-at_most-2.true in
+    work_fits (running_in f) c.requires.1 s.processor (starts_until f s.start) c.loop-k.k below c.loop-k.invariant.1
+    (counted f c.loop-k.k below a t s.processor (starts_until f s.start) c.if-actor-processor.true on c.work-work.ensures)
 
 pub loop-k-preserved : goal.loop-k-preserved
 loop-k-preserved c =
-    let a = c.actor_at-actor.ensures in let k = c.loop-k.k in let s = c.args in let f = s.front.now in
+    let a = c.actor_at-actor.ensures in let k = c.loop-k.k in let s = c.args in let f = s.front.now in let r = running_in f in
     let below = c.loop-k-test.true in let on = ap (λ (x : Actor). x.processor) (actor_read f k below a) in
+    let (since, until) = c.loop-k.invariant in
+    let S = starts_since f s.start in let U = starts_until f s.start in
     elim c.if-actor-processor.branch [
-      | then-actor-processor w ↦ (
-        omega arith,
-        w.since-is ∙ work_more (running_in f) s.processor k (starts_since f s.start) c.loop-k.invariant.1 (since_one f k below a w.times_at-times.ensures s.processor s.start w.at_most.result w.if-actor-processor.true w.work-work.ensures w.counted.ensures w.at_most.ensures) w.plus-since.ensures,
-        w.until-is ∙ work_more (running_in f) s.processor k (starts_until f s.start) c.loop-k.invariant.2 (until_one f k below a w.times_at-times.ensures s.processor s.start w.at_most-then-actor-processor.result w.if-actor-processor.true w.work-work.ensures w.counted-then-actor-processor.ensures w.at_most-then-actor-processor.ensures) w.plus-until.ensures,
-      )
+      | then-actor-processor+then-at_most-2 w ↦
+          let t = w.times_at-times.ensures in let here = w.if-actor-processor.true in (
+            elim w.if-at_most.branch [
+              | then-at_most v ↦ w.since-is ∙ v.since-is
+                  ∙ work_more r s.processor k S since (counted f k below a t s.processor S here (since_is f k below a t s.start w.at_most.ensures ∙ v.if-at_most.true) w.work-work.ensures) v.plus-since.ensures
+              | else-at_most v ↦ w.since-is ∙ v.since-is ∙ work_uncounted r s.processor k S since (since_is f k below a t s.start w.at_most.ensures ∙ v.if-at_most.false)
+            ],
+            w.until-is
+                ∙ work_more r s.processor k U until (counted f k below a t s.processor U here (until_is f k below a t s.start w.at_most-then-actor-processor.ensures ∙ w.if-at_most-2.true) w.work-work.ensures) w.plus-until.ensures,
+          )
+      | then-actor-processor+else-at_most-2 w ↦
+          let t = w.times_at-times.ensures in let here = w.if-actor-processor.true in (
+            elim w.if-at_most.branch [
+              | then-at_most v ↦ w.since-is ∙ v.since-is
+                  ∙ work_more r s.processor k S since (counted f k below a t s.processor S here (since_is f k below a t s.start w.at_most.ensures ∙ v.if-at_most.true) w.work-work.ensures) v.plus-since.ensures
+              | else-at_most v ↦ w.since-is ∙ v.since-is ∙ work_uncounted r s.processor k S since (since_is f k below a t s.start w.at_most.ensures ∙ v.if-at_most.false)
+            ],
+            w.until-is ∙ work_uncounted r s.processor k U until (until_is f k below a t s.start w.at_most-then-actor-processor.ensures ∙ w.if-at_most-2.false),
+          )
       | else-actor-processor w ↦ (
-        omega arith,
-        w.since-is ∙ work_no_more (running_in f) s.processor k (starts_since f s.start) c.loop-k.invariant.1 (λ e. w.if-actor-processor.false (on ∙ e)),
-        w.until-is ∙ work_no_more (running_in f) s.processor k (starts_until f s.start) c.loop-k.invariant.2 (λ e. w.if-actor-processor.false (on ∙ e)),
+        w.since-is ∙ work_elsewhere r s.processor k S since (λ e. w.if-actor-processor.false (on ∙ e)),
+        w.until-is ∙ work_elsewhere r s.processor k U until (λ e. w.if-actor-processor.false (on ∙ e)),
       )
     ]
 
 pub returns : goal.returns
-returns c = let e : c.loop-k.k ≡ ACTORS = omega arith in ap₂ (λ (s u : Tick). record { since = s; until = u }) (rw e at c.loop-k.invariant.1) (rw e at c.loop-k.invariant.2)
-
-pub actor_at-actor-requires : goal.actor_at-actor-requires
-actor_at-actor-requires c = omega arith
-
-pub times_at-times-requires : goal.times_at-times-requires
-times_at-times-requires c = omega arith
-
-pub overflow_step-k : goal.overflow_step-k
-overflow_step-k c = omega arith
-
-pub loop-k-smaller : goal.loop-k-smaller
-loop-k-smaller c = omega arith
+returns c = let e : c.loop-k.k ≡ ACTORS = omega arith in ap₂ (λ (s u : Tick). record { since = s; until = u }) (rw e at c.loop-k.invariant.0) (rw e at c.loop-k.invariant.1)

@@ -1,6 +1,4 @@
 use mathlib.Core.Path.{◌≡◌}
-use Prim.Native.Nat.{◌-◌, ◌≤◌}
-use Rattle.units.specs.Limits.{ACTORS}
 use Rattle.change.specs.Running.{running_in}
 use Rattle.change.proofs.Loads.{work_on}
 use Rattle.change.proofs.Fronts.{starts_since, starts_until}
@@ -8,7 +6,4 @@ use Rattle.change.proofs.work.works_of.Given as goal
 
 abbrev pub invariant-loop-k : goal.invariant-loop-k
 invariant-loop-k l =
-    (l.k ≤ ACTORS) × (l.since ≡ work_on (running_in l.front) l.processor (starts_since l.front l.start) l.k) × (l.until ≡ work_on (running_in l.front) l.processor (starts_until l.front l.start) l.k)
-
-abbrev pub decreases-loop-k : goal.decreases-loop-k
-decreases-loop-k l = ACTORS - l.k
+    (l.since ≡ work_on (running_in l.front) l.processor (starts_since l.front l.start) l.k) × (l.until ≡ work_on (running_in l.front) l.processor (starts_until l.front l.start) l.k)

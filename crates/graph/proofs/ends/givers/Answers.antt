@@ -1,23 +1,12 @@
 -- graph::ends::givers meets its contract. The invariant: the set has who is in one of the first i sets.
-use mathlib.Core.Path.{◌≡◌, refl}
-use native.Mathlib.Omega.{arith}
-use Rattle.units.specs.Limits.{ACTORS}
+use mathlib.Core.Path.{refl}
 use Rattle.graph.specs.Rounds.{givers_from}
 use Rattle.graph.proofs.Bounds.{givers_next}
 use Rattle.graph.proofs.ends.givers.Goals as goal
 
-pub loop-i-init : goal.loop-i-init
+pub loop-froms-init : goal.loop-froms-init
 unfolding givers_from
-loop-i-init c = (omega arith, refl)
+loop-froms-init c = refl
 
-pub loop-i-preserved : goal.loop-i-preserved
-loop-i-preserved c = (omega arith, simp givers_next (cc))
-
-pub returns : goal.returns
-returns c = let e : c.loop-i.i ≡ ACTORS = omega arith in cc
-
-pub overflow_step-i : goal.overflow_step-i
-overflow_step-i c = omega arith
-
-pub loop-i-smaller : goal.loop-i-smaller
-loop-i-smaller c = omega arith
+pub loop-froms-preserved : goal.loop-froms-preserved
+loop-froms-preserved c = simp givers_next (cc)

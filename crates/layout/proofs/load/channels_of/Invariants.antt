@@ -1,4 +1,3 @@
-use Prim.Native.Nat.{◌≤◌, ◌-◌}
 use Rattle.numbers.specs.Joined.{part}
 use Rattle.numbers.proofs.Laid.{Begun}
 use Rattle.units.specs.Limits.{CHANNELS}
@@ -8,7 +7,4 @@ use Rattle.layout.specs.Read.{cut_bytes}
 use Rattle.layout.proofs.load.channels_of.Given as goal
 
 abbrev pub invariant-loop-k : goal.invariant-loop-k
-invariant-loop-k l = (l.k ≤ CHANNELS) × Begun CHANNEL_BYTES (λ j. cut_bytes (part CHANNEL_WORDS j l.words)) CHANNELS l.channels l.k
-
-abbrev pub decreases-loop-k : goal.decreases-loop-k
-decreases-loop-k l = CHANNELS - l.k
+invariant-loop-k l = Begun CHANNEL_BYTES (λ j. cut_bytes (part CHANNEL_WORDS j l.words)) CHANNELS l.channels l.k

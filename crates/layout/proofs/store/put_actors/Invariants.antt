@@ -1,5 +1,5 @@
 use mathlib.Core.Path.{◌≡◌}
-use Prim.Native.Nat.{◌≤◌, ◌-◌, ◌*◌}
+use Prim.Native.Nat.{◌*◌}
 use lib.ListN.{length}
 use Rattle.units.specs.Limits.{ACTORS}
 use Rattle.tables.specs.Memory.{ACTOR_WORDS}
@@ -7,7 +7,4 @@ use Rattle.layout.proofs.Laying.{Timed}
 use Rattle.layout.proofs.store.put_actors.Given as goal
 
 abbrev pub invariant-loop-i : goal.invariant-loop-i
-invariant-loop-i l = (l.i ≤ ACTORS) × (length l.words ≡ ACTOR_WORDS * ACTORS) × Timed l.initial.words l.part l.words l.i
-
-abbrev pub decreases-loop-i : goal.decreases-loop-i
-decreases-loop-i l = ACTORS - l.i
+invariant-loop-i l = (length l.words ≡ ACTOR_WORDS * ACTORS) × Timed l.initial.words l.part l.words l.i

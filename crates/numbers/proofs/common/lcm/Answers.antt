@@ -1,6 +1,6 @@
 -- numbers::common::lcm meets its contract.
 use Prim.Native.Nat.{zero-le}
-use native.Mathlib.Nat.{pos_of_ne-zero, lt_of_le_of_lt, lt_of_lt_of_le, le_of_eq, le-div_iff_mul-le, div-lt_iff_lt-mul}
+use native.Mathlib.Nat.{pos_of_ne-zero, lt_of_lt_of_le, le_of_eq, le-div_iff_mul-le, div-lt_iff_lt-mul}
 use Rattle.numbers.specs.Euclid.{gcd_pos}
 use Rattle.numbers.specs.Multiples.{lcm_unique, lcm_zero, lcm_of_gcd}
 use Rattle.numbers.proofs.common.lcm.Goals as goal
@@ -10,10 +10,6 @@ returns-then-b-eq0 c = (lcm_zero c.args.a c.if-b-eq0.true, zero-le)
 
 pub nonzero_div-q : goal.nonzero_div-q
 nonzero_div-q c = gcd_pos c.gcd.ensures (pos_of_ne-zero c.if-b-eq0.false)
-
-pub overflow_mul-result : goal.overflow_mul-result
-overflow_mul-result c =
-    record { fits = lt_of_le_of_lt ((le-div_iff_mul-le (pos_of_ne-zero c.if-b-eq0.false)).0 c.if-q-limit.true) c.ranges.limit.fits }
 
 pub returns-then-q-limit : goal.returns-then-q-limit
 returns-then-q-limit c =

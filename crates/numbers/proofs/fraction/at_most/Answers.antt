@@ -1,29 +1,13 @@
 -- numbers::fraction::at_most meets its contract. The invariant: the question of x and y is that of a and b. The measure is the sum of their wholes.
 use mathlib.Core.Logic.Iff
-use native.Mathlib.Nat.{mod-lt, pos_of_ne-zero}
-use native.Mathlib.Omega.{arith}
+use native.Mathlib.Nat.{pos_of_ne-zero}
 use Rattle.numbers.specs.Decides.{decides_yes, decides_no}
 use Rattle.numbers.specs.Fraction.{parts_differ, parts_same, nothing_left, nothing_there}
 use Rattle.numbers.proofs.fraction.at_most.Goals as goal
 
-pub loop-x-init : goal.loop-x-init
-loop-x-init c = (c.requires.0, c.requires.1, ((λ p. p), (λ p. p)))
-
-pub nonzero_div-p : goal.nonzero_div-p
-nonzero_div-p c = c.loop-x.invariant.0
-
-pub nonzero_div-q : goal.nonzero_div-q
-nonzero_div-q c = c.loop-x.invariant.1
-
 pub returns-then-p-q : goal.returns-then-p-q
 returns-then-p-q c =
     let l = c.loop-x in Iff.trans (parts_differ l.x l.y l.invariant.0 l.invariant.1 c.if-p-q.true) l.invariant.2
-
-pub nonzero_rem-r : goal.nonzero_rem-r
-nonzero_rem-r c = c.loop-x.invariant.0
-
-pub nonzero_rem-s : goal.nonzero_rem-s
-nonzero_rem-s c = c.loop-x.invariant.1
 
 pub returns-then-r-eq0 : goal.returns-then-r-eq0
 returns-then-r-eq0 c =
@@ -32,10 +16,6 @@ returns-then-r-eq0 c =
 pub returns-then-s-eq0 : goal.returns-then-s-eq0
 returns-then-s-eq0 c =
     let l = c.loop-x in Iff.trans (decides_no (nothing_there l.x l.y l.invariant.0 l.invariant.1 c.if-p-q.false c.if-r-eq0.false c.if-s-eq0.true)) l.invariant.2
-
-pub loop-x-smaller : goal.loop-x-smaller
-loop-x-smaller c =
-    let l = c.loop-x in omega (arith, mod-lt l.x.over l.invariant.0, mod-lt l.y.over l.invariant.1)
 
 pub loop-x-preserved : goal.loop-x-preserved
 loop-x-preserved c =

@@ -1,12 +1,9 @@
-use Prim.Native.Nat.{◌≤◌, ◌-◌}
-use lib.ListN.{take}
-use Rattle.layout.specs.Words.{CHANGES}
-use Rattle.planner.specs.Changes.{MODES_WORDS}
-use Rattle.planner.proofs.Timing.{Changed}
+use Prim.Native.Nat.{ℕ, ◌<◌}
+use mathlib.Core.Path.{◌≡◌}
+use Rattle.numbers.specs.Joined.{part}
+use Rattle.layout.specs.Words.{CHANGE_WORDS}
+use Rattle.planner.proofs.Timing.{change_in}
 use Rattle.planner.proofs.changes.changes_hold.Given as goal
 
 abbrev pub invariant-loop-n : goal.invariant-loop-n
-invariant-loop-n l = (l.n ≤ CHANGES) × Changed (take MODES_WORDS l.words) l.words l.n
-
-abbrev pub decreases-loop-n : goal.decreases-loop-n
-decreases-loop-n l = CHANGES - l.n
+invariant-loop-n l = (k : ℕ) → k < l.n → part CHANGE_WORDS k l.behind ≡ change_in l.modes k

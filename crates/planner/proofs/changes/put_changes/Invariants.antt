@@ -1,12 +1,7 @@
-use Prim.Native.Nat.{◌≤◌, ◌-◌}
-use lib.ListN.{take}
-use Rattle.layout.specs.Words.{CHANGES}
-use Rattle.planner.specs.Changes.{MODES_WORDS}
-use Rattle.planner.proofs.Timing.{Changed}
+use Rattle.numbers.proofs.Laid.{Begun}
+use Rattle.layout.specs.Words.{CHANGES, CHANGE_WORDS}
+use Rattle.planner.proofs.Timing.{change_in}
 use Rattle.planner.proofs.changes.put_changes.Given as goal
 
 abbrev pub invariant-loop-n : goal.invariant-loop-n
-invariant-loop-n l = (l.n ≤ CHANGES) × Changed (take MODES_WORDS l.initial.words) l.words l.n
-
-abbrev pub decreases-loop-n : goal.decreases-loop-n
-decreases-loop-n l = CHANGES - l.n
+invariant-loop-n l = Begun CHANGE_WORDS (change_in l.modes) CHANGES l.behind l.n

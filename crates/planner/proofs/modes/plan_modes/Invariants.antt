@@ -1,5 +1,5 @@
 use mathlib.Core.Path.{◌≡◌}
-use Prim.Native.Nat.{◌-◌, ◌*◌, ◌≤◌}
+use Prim.Native.Nat.{◌*◌}
 use lib.ListN.{length}
 use Rattle.units.specs.Limits.{MODES}
 use Rattle.tables.specs.Memory.{TABLE_WORDS, TABLE_BYTES, table_in}
@@ -9,7 +9,4 @@ use Rattle.planner.proofs.modes.plan_modes.Given as goal
 
 abbrev pub invariant-loop-m : goal.invariant-loop-m
 invariant-loop-m l =
-    (l.m ≤ MODES) × (length l.initial.fronts ≡ TABLE_WORDS) × (length l.channels ≡ TABLE_BYTES) × (length l.initial.carried ≡ CARRIED_WORDS * MODES) × Coming (table_in l.initial.fronts l.channels) l.channels l.fronts l.carried l.m
-
-abbrev pub decreases-loop-m : goal.decreases-loop-m
-decreases-loop-m l = MODES - l.m
+    (length l.initial.fronts ≡ TABLE_WORDS) × (length l.channels ≡ TABLE_BYTES) × (length l.initial.carried ≡ CARRIED_WORDS * MODES) × Coming (table_in l.initial.fronts l.channels) l.channels l.fronts l.carried l.m

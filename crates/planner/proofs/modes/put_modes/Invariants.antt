@@ -1,4 +1,3 @@
-use Prim.Native.Nat.{◌-◌, ◌≤◌}
 use Rattle.numbers.proofs.Laid.{Begun}
 use Rattle.units.specs.Limits.{MODES}
 use Rattle.layout.specs.Words.{MODE_WORDS}
@@ -6,7 +5,4 @@ use Rattle.planner.specs.Modes.{laid_at}
 use Rattle.planner.proofs.modes.put_modes.Given as goal
 
 abbrev pub invariant-loop-m : goal.invariant-loop-m
-invariant-loop-m l = (l.m ≤ MODES) × Begun MODE_WORDS (laid_at l.fronts l.channels l.carried) MODES l.words l.m
-
-abbrev pub decreases-loop-m : goal.decreases-loop-m
-decreases-loop-m l = MODES - l.m
+invariant-loop-m l = Begun MODE_WORDS (laid_at l.fronts l.channels l.carried) MODES l.words l.m

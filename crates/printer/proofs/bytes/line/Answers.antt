@@ -1,84 +1,48 @@
--- printer::bytes::line meets its contract.
-use Rattle.rfc4180.specs.Laid.{Room}
-use Rattle.rfc4180.proofs.Laying.{laid_then, laid_length, room_first, room_then}
-use Rattle.printer.proofs.Fitting.{end, from_4, from_3, from_2, from_1, from_0, line_parts}
-use Rattle.printer.proofs.bytes.line.Lts as lts
-use Rattle.printer.proofs.bytes.line.Reads as reads
-use Rattle.printer.proofs.bytes.line.Tie as tie
+-- printer::bytes::line meets its contract. The invariant: the word and the numbers before the one at hand are laid.
+use Rattle.std.proofs.Common.{sym, ap, ℕ, ◌+◌, ◌<◌, ◌≤◌, List, ◌++◌, append-nil, length, get_or, take, drop, arith}
+use Rattle.std.proofs.lemmas.List.{take_all}
+use Rattle.rfc4180.specs.Laid.{Room, Laid}
+use Rattle.rfc4180.proofs.Laying.{laid_then, room_first, room_then}
+use Rattle.printer.specs.Printed.{line_text}
+use Rattle.printer.proofs.Fitting.{field_text, fields, end, line_parts, fields_more, fields_left}
+use Rattle.printer.proofs.Laying.{laid_as, room_as}
 use Rattle.printer.proofs.bytes.line.Goals as goal
 
-abbrev Here-After-field-end : Type 0
-Here-After-field-end = lts.After-field5 tie.the-claims reads.Pre reads.Post
+module _ {l : List ℕ} {at : ℕ} (word ns : List ℕ) (r : Room l at (line_text word ns)) where
+  room_fields : Room l at (word ++ fields ns)
+  room_fields = room_first end (room_as (line_parts word ns) r)
 
-abbrev Here-After-field-fifth : Type 0
-Here-After-field-fifth = lts.After-field4 tie.the-claims reads.Pre reads.Post
+  module _ {k : List ℕ} {mid : ℕ} (i : ℕ) (a : Laid l at (word ++ fields (take i ns)) k mid) where
+    -- there is room for the next number, and for the end
+    room_field : i < length ns → Room k mid (field_text (get_or ns i 0))
+    room_field h = room_first (fields (drop (i + 1) ns)) (room_then (room_as (fields_left word ns i h) room_fields) a)
 
-abbrev Here-After-field-fourth : Type 0
-Here-After-field-fourth = lts.After-field3 tie.the-claims reads.Pre reads.Post
+    all_laid : length ns ≤ i → Laid l at (word ++ fields ns) k mid
+    all_laid h = laid_as (ap (λ (x : List ℕ). word ++ fields x) (sym (take_all i ns h))) a
 
-abbrev Here-After-field-second : Type 0
-Here-After-field-second = lts.After-field tie.the-claims reads.Pre reads.Post
+    room_ended : length ns ≤ i → Room k mid end
+    room_ended h = room_then (room_as (line_parts word ns) r) (all_laid h)
 
-abbrev Here-After-field-third : Type 0
-Here-After-field-third = lts.After-field2 tie.the-claims reads.Pre reads.Post
+    -- one number more is laid
+    field_laid : {j : List ℕ} {n : ℕ} → i < length ns → Laid k mid (field_text (get_or ns i 0)) j n → Laid l at (word ++ fields (take (i + 1) ns)) j n
+    field_laid h b = laid_as (fields_more word ns i h) (laid_then a b)
 
-abbrev Here-After-word-first : Type 0
-Here-After-word-first = lts.After-word tie.the-claims reads.Pre reads.Post
+pub word-end-requires : goal.word-end-requires
+word-end-requires c = room_first (fields c.args.numbers.now) (room_fields c.args.text.now c.args.numbers.now c.requires)
 
--- the room that is left at the field at place 0
-room_0 : (c : Here-After-word-first) → Room c.word-first.new.out c.word-first.result (from_0 c.args.numbers)
-room_0 c = room_then (rw line_parts at c.requires) c.word-first.ensures
-
--- the room that is left at the field at place 1
-room-1 : (c : Here-After-field-second) → Room c.field-second.new.out c.field-second.result (from_1 c.args.numbers)
-room-1 c = room_then (room_0 c.before.before.before.before) c.field-second.ensures
-
--- the room that is left at the field at place 2
-room-2 : (c : Here-After-field-third) → Room c.field-third.new.out c.field-third.result (from_2 c.args.numbers)
-room-2 c = room_then (room-1 c.before.before.before.before) c.field-third.ensures
-
--- the room that is left at the field at place 3
-room-3 : (c : Here-After-field-fourth) → Room c.field-fourth.new.out c.field-fourth.result (from_3 c.args.numbers)
-room-3 c = room_then (room-2 c.before.before.before.before) c.field-fourth.ensures
-
--- the room that is left at the field at place 4
-room-4 : (c : Here-After-field-fifth) → Room c.field-fifth.new.out c.field-fifth.result (from_4 c.args.numbers)
-room-4 c = room_then (room-3 c.before.before.before.before) c.field-fifth.ensures
-
--- the room that is left at the field at place 5
-room-5 : (c : Here-After-field-end) → Room c.field-end.new.out c.field-end.result (end)
-room-5 c = room_then (room-4 c.before.before.before.before) c.field-end.ensures
-
-pub word-first-requires : goal.word-first-requires
-word-first-requires c = room_first (from_0 c.args.numbers) (rw line_parts at c.requires)
-
-pub field-second-requires : goal.field-second-requires
-field-second-requires c = room_first (from_1 c.args.numbers) (room_0 c.before.before.before.before)
-
-pub field-third-requires : goal.field-third-requires
-field-third-requires c = room_first (from_2 c.args.numbers) (room-1 c.before.before.before.before)
-
-pub field-fourth-requires : goal.field-fourth-requires
-field-fourth-requires c = room_first (from_3 c.args.numbers) (room-2 c.before.before.before.before)
-
-pub field-fifth-requires : goal.field-fifth-requires
-field-fifth-requires c = room_first (from_4 c.args.numbers) (room-3 c.before.before.before.before)
+pub loop-number-init : goal.loop-number-init
+loop-number-init c = rw append-nil c.word-end.ensures
 
 pub field-end-requires : goal.field-end-requires
-field-end-requires c = room_first (end) (room-4 c.before.before.before.before)
+field-end-requires c = room_field c.args.text.now c.args.numbers.now c.requires c.loop-number.number-index c.loop-number.invariant (omega arith)
+
+pub loop-number-preserved : goal.loop-number-preserved
+loop-number-preserved c =
+    field_laid c.args.text.now c.args.numbers.now c.requires c.loop-number.number-index c.loop-number.invariant (omega arith) c.field-end.ensures
+
+pub crlf-requires : goal.crlf-requires
+crlf-requires c = room_ended c.args.text.now c.args.numbers.now c.requires c.loop-number.number-index c.loop-number.invariant (omega arith)
 
 pub returns : goal.returns
 returns c =
-    rw line_parts
-    (laid_then c.word-first.ensures
-    (laid_then c.field-second.ensures
-    (laid_then c.field-third.ensures
-    (laid_then c.field-fourth.ensures
-    (laid_then c.field-fifth.ensures
-    (laid_then c.field-end.ensures c.crlf.ensures))))))
-
-pub crlf-requires : goal.crlf-requires
-crlf-requires c = room-5 c.before.before.before.before
-
-pub shape_of-out : goal.shape_of-out
-shape_of-out c = laid_length (returns c)
+    rw line_parts (laid_then (all_laid c.args.text.now c.args.numbers.now c.requires c.loop-number.number-index c.loop-number.invariant (omega arith)) c.crlf.ensures)

@@ -1,12 +1,11 @@
-use Prim.Native.Nat.{◌-◌}
-use Rattle.numbers.specs.Filled.{FilledBy}
+use Rattle.std.proofs.Common.{◌≡◌, ℕ, ◌<◌, length, get_or}
 use Rattle.units.specs.Limits.{MODES}
 use Rattle.tables.specs.Shape.{mode_at}
 use Rattle.layout.specs.Read.{graph_of}
 use Rattle.printer.proofs.lines.active_of.Given as goal
 
 abbrev pub invariant-loop-m : goal.invariant-loop-m
-invariant-loop-m l = FilledBy MODES (λ i. (mode_at (graph_of l.words) i).active) 0 l.active l.m
-
-abbrev pub decreases-loop-m : goal.decreases-loop-m
-decreases-loop-m l = MODES - l.m
+invariant-loop-m l = record {
+  long : length l.active-items ≡ MODES;
+  done : (k : ℕ) → k < l.m → get_or l.active-items k 0 ≡ (mode_at (graph_of l.words) k).active;
+}

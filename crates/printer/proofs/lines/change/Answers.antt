@@ -1,6 +1,6 @@
 -- printer::lines::change meets its contract.
 use borrow.Author.Tests.{eq-eqb, ne_eqb}
-use Rattle.rfc4180.proofs.Laying.{laid_none, laid_length}
+use Rattle.rfc4180.proofs.Laying.{laid_none}
 use Rattle.printer.proofs.lines.change.Goals as goal
 
 pub returns-then-old-eq0 : goal.returns-then-old-eq0
@@ -21,6 +21,3 @@ pub returns : goal.returns
 returns c =
     rw (ne_eqb _ 0 c.if-old-eq0.false, ne_eqb _ 0 c.if-new-eq0.false, ne_eqb _ _ c.if-o-n.false)
     (rw (c.number_of.ensures, c.number_of-2.ensures, c.ticks.ensures, c.ticks-2.ensures, c.ticks-3.ensures) at c.line.ensures)
-
-pub shape_of-out : goal.shape_of-out
-shape_of-out c = laid_length c.line.ensures

@@ -1,5 +1,3 @@
-use Prim.Native.Nat.{◌-◌, ◌≤◌}
-use Rattle.units.specs.Limits.{MODES}
 use Rattle.rfc4180.specs.Laid.{Laid}
 use Rattle.layout.specs.Read.{plan_of}
 use Rattle.printer.specs.Texts.{texts}
@@ -7,7 +5,4 @@ use Rattle.printer.specs.Printed.{from_text}
 use Rattle.printer.proofs.lines.changes.Given as goal
 
 abbrev pub invariant-loop-o : goal.invariant-loop-o
-invariant-loop-o l = (l.o ≤ MODES) × Laid l.initial.out l.from (texts (λ o. from_text l.active (plan_of l.words).changes o) l.o) l.out l.at
-
-abbrev pub decreases-loop-o : goal.decreases-loop-o
-decreases-loop-o l = MODES - l.o
+invariant-loop-o l = Laid l.initial.out l.from (texts (λ o. from_text l.active (plan_of l.words).changes o) l.o) l.out l.at

@@ -1,5 +1,4 @@
-use mathlib.Core.Path.{◌≡◌}
-use Prim.Native.Nat.{◌-◌, ◌≤◌}
+use Rattle.std.proofs.Common.{◌≤◌}
 use Rattle.units.specs.Limits.{CHANNELS}
 use Rattle.tables.specs.Shape.{channel_at}
 use Rattle.rfc4180.specs.Laid.{Laid}
@@ -9,8 +8,7 @@ use Rattle.printer.specs.Printed.{channel_text, size_at, tokens_at}
 use Rattle.printer.proofs.lines.channels.Given as goal
 
 abbrev pub invariant-loop-k : goal.invariant-loop-k
-invariant-loop-k l =
-    (l.k ≤ l.k-end) × (l.k-end ≡ (mode_of l.words).count) × (l.k-end ≤ CHANNELS) × Laid l.initial.out l.from (texts (λ k. channel_text l.m (channel_at (mode_of l.words) k) (size_at (part_of l.words) k) (tokens_at (part_of l.words) k)) l.k) l.out l.at
-
-abbrev pub decreases-loop-k : goal.decreases-loop-k
-decreases-loop-k l = l.k-end - l.k
+invariant-loop-k l = record {
+  few : l.k-end ≤ CHANNELS;
+  laid : Laid l.initial.out l.from (texts (λ k. channel_text l.m (channel_at (mode_of l.words) k) (size_at (part_of l.words) k) (tokens_at (part_of l.words) k)) l.k) l.out l.at;
+}

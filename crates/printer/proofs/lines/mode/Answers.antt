@@ -1,7 +1,7 @@
 -- printer::lines::mode meets its contract.
 use Rattle.layout.specs.Read.{mode_of, part_of}
 use Rattle.printer.specs.Printed.{channels_text}
-use Rattle.rfc4180.proofs.Laying.{laid_then, laid_length, room_first, room_then}
+use Rattle.rfc4180.proofs.Laying.{laid_then, room_first, room_then}
 use Rattle.printer.proofs.lines.mode.Goals as goal
 
 pub actors-next-requires : goal.actors-next-requires
@@ -15,6 +15,3 @@ channels-requires c =
 pub returns : goal.returns
 returns c =
     laid_then c.actors-next.ensures c.channels.ensures
-
-pub shape_of-out : goal.shape_of-out
-shape_of-out c = laid_length (returns c)

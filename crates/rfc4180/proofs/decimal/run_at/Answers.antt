@@ -1,25 +1,36 @@
 -- rfc4180::decimal::run_at meets its contract. The invariant: the digits up to the end write the value, which is at most the most.
-use Rattle.std.proofs.Common.{arith}
-use Rattle.rfc4180.proofs.Runs.{run_none, run_first, run_more, stands_first, stands_more}
+use Rattle.std.proofs.Common.{arith, ◌≡◌, ◌+◌, ◌*◌, ◌∙◌, ap, ℕ}
+use Rattle.rfc4180.proofs.Runs.{run_none, run_first, run_more, stands_first, stands_more, digit_behind}
 use Rattle.rfc4180.proofs.decimal.run_at.Goals as goal
 
-pub returns-in_default : goal.returns-in_default
-returns-in_default c = λ n end r. run_none c.in_default.ensures r
+pub returns-in_err-value : goal.returns-in_err-value
+returns-in_err-value c = rw c.from_residual.ensures (λ n end r. run_none c.in_err-value.ensures r)
 
-pub returns-then-most-first : goal.returns-then-most-first
-returns-then-most-first c = λ n end r. omega (arith, run_first c.in-Of.ensures r, r.0.small)
+pub returns-then-most-value : goal.returns-then-most-value
+returns-then-most-value c = λ n end r. omega (arith, run_first c.in_ok-value.ensures r, r.0.small)
 
-pub loop-digit-init : goal.loop-digit-init
-loop-digit-init c = stands_first c.in-Of.ensures c.if-most-first.false
+pub loop-i-init : goal.loop-i-init
+loop-i-init c = let e : c.args.at + 1 + 0 ≡ c.args.at + 1 = omega arith in rw e (stands_first c.in_ok-value.ensures c.if-most-value.false)
 
 pub returns-then-value-eq0 : goal.returns-then-value-eq0
-returns-then-value-eq0 c = λ n end r. omega (arith, run_more c.in-Of-digit_at.ensures r c.loop-digit.invariant)
+returns-then-value-eq0 c = λ n end r. omega (arith, run_more (digit_behind _ _ _ c.loop-i-test.true c.in-Some.ensures) r c.loop-i.invariant)
 
-pub returns-then-tenth-value : goal.returns-then-tenth-value
-returns-then-tenth-value c = λ n end r. omega (arith, r.0.small, run_more c.in-Of-digit_at.ensures r c.loop-digit.invariant)
+pub returns-in_err-checked_mul : goal.returns-in_err-checked_mul
+returns-in_err-checked_mul c =
+    rw c.from_residual-in_err-checked_mul.ensures
+    (λ n end r. absurd (c.in_err-checked_mul.ensures (omega (arith, c.ranges.most.fits, r.0.small, run_more (digit_behind _ _ _ c.loop-i-test.true c.in-Some.ensures) r c.loop-i.invariant))))
 
-pub returns-then-most-tens : goal.returns-then-most-tens
-returns-then-most-tens c = λ n end r. omega (arith, r.0.small, run_more c.in-Of-digit_at.ensures r c.loop-digit.invariant)
+pub returns-in_err-more : goal.returns-in_err-more
+returns-in_err-more c =
+    rw c.from_residual-in_err-more.ensures
+    (λ n end r. absurd (c.in_err-more.ensures (omega (arith, c.ranges.most.fits, c.in_ok-checked_mul.ensures.1, r.0.small, run_more (digit_behind _ _ _ c.loop-i-test.true c.in-Some.ensures) r c.loop-i.invariant))))
 
-pub loop-digit-preserved : goal.loop-digit-preserved
-loop-digit-preserved c = stands_more c.in-Of-digit_at.ensures c.loop-digit.invariant (omega arith) (omega arith)
+pub returns-then-most-more : goal.returns-then-most-more
+returns-then-most-more c =
+    λ n end r. omega (arith, c.in_ok-more.ensures, c.in_ok-checked_mul.ensures.1, r.0.small, run_more (digit_behind _ _ _ c.loop-i-test.true c.in-Some.ensures) r c.loop-i.invariant)
+
+pub loop-i-preserved : goal.loop-i-preserved
+loop-i-preserved c =
+    let e : c.args.at + 1 + (c.loop-i.i + 1) ≡ c.args.at + 1 + c.loop-i.i + 1 = omega arith in
+    let v : c.in_ok-more.more ≡ c.loop-i.value * 10 + c.in-Some.digit = c.in_ok-more.ensures.1 ∙ ap (λ (x : ℕ). x + c.in-Some.digit) c.in_ok-checked_mul.ensures.1 in
+    rw (e, v) (stands_more (digit_behind _ _ _ c.loop-i-test.true c.in-Some.ensures) c.loop-i.invariant (omega arith) (omega (arith, v)))

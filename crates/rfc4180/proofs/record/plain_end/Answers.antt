@@ -1,9 +1,15 @@
--- rfc4180::record::plain_end meets its contract. The loop's invariant: the text from i on ends where the text from the start on ends.
-use Rattle.rfc4180.proofs.Scanning.{plain_here, plain_more}
+-- rfc4180::record::plain_end meets its contract.
+use Rattle.std.proofs.Common.{◌≡◌, rules, sym, tests}
+use Rattle.std.proofs.lemmas.Iterator.{IsFirst-from_position, YieldsList-from_slice}
+use Rattle.std.proofs.lemmas.List.{take_rest}
+use Rattle.rfc4180.specs.declared.bytes.Class.TheVariants.{Text}
+use Rattle.rfc4180.specs.Bytes.{class_of}
+use Rattle.rfc4180.proofs.Scanning.{plain_found}
 use Rattle.rfc4180.proofs.record.plain_end.Goals as goal
 
-pub loop-i-preserved : goal.loop-i-preserved
-loop-i-preserved c = λ r p. c.loop-i.invariant r (plain_more c.args.text.now c.loop-i.i c.class_at.ensures c.in-Text.is p)
-
-pub returns-in_default : goal.returns-in_default
-returns-in_default c = c.loop-i.invariant c.loop-i.i (plain_here c.args.text.now c.loop-i.i c.class_at.ensures c.in_default.not-Text)
+pub returns : goal.returns
+returns c =
+    rw c.unwrap_or.ensures
+    (plain_found _ _ c.position.result (sym (take_rest c.args.text.now c.args.from))
+    (IsFirst-from_position _ _ _ (λ b. class_of b ≡ Text → ⊥) (λ b. class_of b ≡ Text) c.position.ensures.ran (YieldsList-from_slice _ c.iter.ensures.rest)
+    (λ x q k. search (rules, tests)) (λ x q k. search (rules, tests))))

@@ -1,4 +1,3 @@
-use Prim.Native.Nat.{◌≤◌, ◌-◌}
 use Rattle.numbers.specs.All.{Below}
 use Rattle.numbers.specs.Tab.{tab}
 use Rattle.units.specs.Limits.{ACTORS}
@@ -7,7 +6,4 @@ use Rattle.tables.specs.Parts.{AtHome}
 use Rattle.tables.proofs.homes.at_home.Given as goal
 
 abbrev pub invariant-loop-i : goal.invariant-loop-i
-invariant-loop-i l = (l.i ≤ ACTORS) × Below (AtHome l.homes (tab ACTORS (actor_in l.front))) l.i
-
-abbrev pub decreases-loop-i : goal.decreases-loop-i
-decreases-loop-i l = ACTORS - l.i
+invariant-loop-i l = Below (AtHome l.fn.homes (tab ACTORS (actor_in l.front))) l.i

@@ -1,15 +1,12 @@
-use Prim.Native.Nat.{◌-◌}
-use lib.ListN.{get_or}
-use Rattle.numbers.specs.Filled.{FilledBy}
-use Rattle.numbers.specs.Tab.{tab}
+use Rattle.std.proofs.Common.{◌≡◌, ℕ, ◌<◌, ◌≤◌, length, get_or, None}
 use Rattle.units.specs.Limits.{ACTORS}
-use Rattle.tables.specs.Shape.{no_actor}
 use Rattle.tables.specs.Memory.{actor_in}
 use Rattle.tables.specs.Parts.{home_of}
 use Rattle.tables.proofs.homes.housed.Given as goal
 
 abbrev pub invariant-loop-i : goal.invariant-loop-i
-invariant-loop-i l = FilledBy ACTORS (λ k. home_of (get_or l.homes k 0) (get_or (tab ACTORS (actor_in l.front)) k no_actor).processor) 0 l.next l.i
-
-abbrev pub decreases-loop-i : goal.decreases-loop-i
-decreases-loop-i l = ACTORS - l.i
+invariant-loop-i l = record {
+  long : length l.home-items ≡ ACTORS;
+  done : (k : ℕ) → k < l.i → get_or l.home-items k None ≡ home_of (get_or l.fn.homes k None) (actor_in l.front k).processor;
+  left : (k : ℕ) → l.i ≤ k → get_or l.home-items k None ≡ get_or l.fn.homes k None;
+}

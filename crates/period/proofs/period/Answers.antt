@@ -1,5 +1,0 @@
--- period::period meets its contract.
-use Rattle.period.proofs.period.Goals as goal
-
-pub returns : goal.returns
-returns c = cc

@@ -1,6 +1,0 @@
--- units::Token::at_most meets its contract.
-use Rattle.numbers.specs.Decides.{decides_leb}
-use Rattle.units.proofs.Token.at_most.Goals as goal
-
-pub returns : goal.returns
-returns c = decides_leb _ _
