@@ -5,7 +5,7 @@ ghost use Rattle.std.specs.Prelude.{◌≡◌, ◌+◌, length, drop, eqb};
 ghost use Rattle.std.specs.List.{position};
 ghost use Rattle.arguments.specs.Argument.{arguments_of, first_of, RequestOf, FirstBad};
 
-use rfc4180::decimal::number_of;
+use rfc4180::decimal::{GREATEST, number_of};
 use units::Tick;
 
 // A request: a mode and a clock, as MODE@CLOCK.
@@ -38,8 +38,8 @@ pub fn request_of(bytes: &[u8]) -> Option<Request>
     ensures { RequestOf bytes.now result }
 {
     let sign = sign_in(bytes, b'@')?;
-    let mode = number_of(&bytes[..sign], 0, u64::MAX)?;
-    let clock = number_of(&bytes[sign + 1..], 0, u64::MAX)?;
+    let mode = number_of(&bytes[..sign], 0, GREATEST)?;
+    let clock = number_of(&bytes[sign + 1..], 0, GREATEST)?;
     Some(Request {
         mode,
         clock: Tick::of(clock),

@@ -13,7 +13,7 @@ use layout::WORDS;
 pub use lines::LINE;
 use lines::{bad, refused};
 use printer::PRINTED;
-use rfc4180::decimal::number_of;
+use rfc4180::decimal::{GREATEST, number_of};
 use terms::refusal::{Reason, Refusal};
 
 // What `plan` prints for a text, in a buffer of the one length.
@@ -36,7 +36,7 @@ fn answer(text: &[u8], arguments: &[u8], out: &mut [u8]) -> usize
     ensures { Lays (AskPrints text.now (arguments_of arguments.now)) out.old 0 out.new result }
 {
     let end = end_of(arguments, 0);
-    let Some(mode) = number_of(&arguments[..end], 0, u64::MAX) else {
+    let Some(mode) = number_of(&arguments[..end], 0, GREATEST) else {
         return bad(out, 1);
     };
     if let Some(number) = first_bad(arguments, end + 1) {

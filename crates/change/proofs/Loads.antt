@@ -1,12 +1,12 @@
 -- The work of a mode between two ticks, and what it asks of a processor as a part of an iteration. Assumes nothing.
-use mathlib.Core.Path.{◌≡◌, refl, ap, ◌∙◌}
+use mathlib.Core.Path.{◌≡◌, refl, ap, ap₂, ◌∙◌}
 use mathlib.Core.Bool.{Bool, true, false, cond, ◌&&◌}
 use mathlib.Core.Logic.{◌⊎◌, inl, inr, ⊎_elim, ◌↔◌}
 use Prim.Native.Nat.{ℕ, zero, suc, ◌+◌, ◌*◌, ◌^◌, ◌≤◌, ◌<◌, zero-le}
 use native.Mathlib.Nat.{le_antisymm, le_refl}
 use native.Mathlib.Omega.{arith}
 use native.Mathlib.Decide.{dec_le}
-use borrow.Author.Tests.{eq-eqb, ne_eqb}
+use borrow.Author.Tests.{eq-eqb, ne_eqb, eqb-true}
 use lib.Dec.{T, eqb, leb}
 use Rattle.numbers.specs.Bits.{bit, Has, hasb, has_or_not, has_decides}
 use Rattle.numbers.specs.Decides.{Decides, decides_unique, decides_and, decides_eqb, decides_leb, decides_true, decides_false}
@@ -22,7 +22,7 @@ use Rattle.units.specs.declared.Firing.{Firing}
 use Rattle.period.specs.Period.{work_of, work_most, share_of}
 use Rattle.tables.specs.declared.Actor.{Actor}
 use Rattle.graph.specs.Load.{is_on, asked_by, asked_of}
-use Rattle.change.specs.Work.{actor_of, firings_at, counted_of}
+use Rattle.change.specs.Work.{actor_of, firings_at, no_works, counted_of, works_of}
 use Rattle.change.specs.Change.{period_in, start_of}
 use Rattle.change.specs.Running.{Running, Fitting, mode_times, Ready}
 
@@ -30,7 +30,7 @@ use Rattle.change.specs.Running.{Running, Fitting, mode_times, Ready}
 abbrev pub work_on : Running → ℕ → (ℕ → Bool) → ℕ → Tick
 work_on r p counts k = tick (sum (λ i. (counted_of r.actors r.firings p counts i).0) k)
 
--- of actors and firings within their ranges it is within 64 bits
+-- of actors and firings within their ranges it is within 64 bits, and there is none without a processor
 module _ (r : Running) (fits : Fitting r) where
   pub work_fits : (p : ℕ) (counts : ℕ → Bool) (k : ℕ) → k < ACTORS → {v w : Tick} → v ≡ work_on r p counts k → w ≡ counted_of r.actors r.firings p counts k → v.0 + w.0 < 2 ^ 64
   work_fits p counts k l e f =
@@ -43,6 +43,17 @@ module _ (r : Running) (fits : Fitting r) where
       most : (i : ℕ) → i < ACTORS → (counted_of r.actors r.firings p counts i).0 ≤ MOST_WORK.0
       most i h =
           go (eqb (actor_of r.actors i).processor p && counts i) (work_of (actor_of r.actors i).wcet (firings_at r.firings i)) (work_most (fits.wcet i h) (omega (arith, fits.few i h)))
+
+  pub works_nowhere : (p : ℕ) (start : Tick) → p ≡ 0 → no_works ≡ works_of r.actors r.firings r.starts p start
+  works_nowhere p start e = rw e (ap₂ (λ (s u : ℕ). record { since = tick s; until = tick u }) (none _) (none _))
+    where
+      go : (i : ℕ) → i < ACTORS → (x : Bool) → eqb (actor_of r.actors i).processor 0 ≡ x → (y : Bool) → (cond (x && y) (work_of (actor_of r.actors i).wcet (firings_at r.firings i)) (tick 0)).0 ≤ 0
+      go i h true e true = rw (fits.nowhere i h (eqb-true _ _ e)) (omega arith)
+      go i h true e false = zero-le
+      go i h false e y = zero-le
+
+      none : (counts : ℕ → Bool) → 0 ≡ (work_on r 0 counts ACTORS).0
+      none counts = omega (arith, sum_most (λ i. (counted_of r.actors r.firings 0 counts i).0) 0 ACTORS (λ i h. go i h (eqb (actor_of r.actors i).processor 0) refl (counts i)))
 
 -- one actor more: one on processor p that counts, or another
 module _ (r : Running) (p k : ℕ) (counts : ℕ → Bool) where

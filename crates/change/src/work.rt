@@ -34,14 +34,17 @@ fn works_of(front: &[u64], processor: usize, start: Tick) -> Works
     Works { since, until }
 }
 
-// The works of actor i.
+// The works of actor i; none where it has no processor, as an actor that is not active.
 pub(crate) fn works_at(front: &[u64], i: usize) -> Works
     requires { (length front.now ≡ FRONT_WORDS) × Fitting (running_in front.now) × (i < ACTORS_LIMIT) }
     ensures { result ≡ works_at (running_in front.now).actors (running_in front.now).firings (running_in front.now).starts i }
 {
-    works_of(
-        front,
-        actor_at(front, i).processor,
-        times_at(front, i).start,
-    )
+    let processor = actor_at(front, i).processor;
+    if processor == 0 {
+        return Works {
+            since: Tick::NONE,
+            until: Tick::NONE,
+        };
+    }
+    works_of(front, processor, times_at(front, i).start)
 }

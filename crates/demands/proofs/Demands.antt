@@ -181,7 +181,7 @@ tables =
       accepted = Plans.accepted;
       refused = refuses;
       only_then = λ l p. only_then l p refl;
-      no_room = Plans.wrong_length;
+      no_room = λ n. (Plans.wrong_length n, refl);
       answered = answered;
       text_numbers = text_numbers;
       modes_numbers_law = modes_numbers_law;
@@ -194,18 +194,18 @@ printed {t} {w} l long p =
     (length (plan_text t w), e, record { long = refl; is = f })
 
 print_15 : {words before after : List ℕ} {x : Result ℕ Refusal} → (length before ≡ PRINTED → Stored words → ⊥) → Prints words before x after
-    → (x ≡ Err no_plan) × (after ≡ before)
-print_15 n (Prints.no_room h) = (refl, refl)
-print_15 n (Prints.not_stored h k) = (refl, refl)
+    → (x ≡ Err no_plan) × (number no_plan.reason ≡ 15) × (after ≡ before)
+print_15 n (Prints.no_room h) = (refl, refl, refl)
+print_15 n (Prints.not_stored h k) = (refl, refl, refl)
 print_15 n (Prints.printed h l s) = absurd (n h (leaves_stored l))
 
 machines : MachinesRight
 machines =
     record {
-      start_15 = λ n b. begins_unique b (Begins.not_stored n);
-      start_11 = λ l m n b. begins_unique b (Begins.not_listed l m n);
+      start_15 = λ n b. (begins_unique b (Begins.not_stored n), refl);
+      start_11 = λ l m n b. (begins_unique b (Begins.not_listed l m n), refl);
       start_begun = λ l m h b. begins_unique b (Begins.begun l m h);
-      request_15 = λ n a. answers_unique a (Answers.not_stored n);
+      request_15 = λ n a. let (e, f) = answers_unique a (Answers.not_stored n) in (e, refl, f);
       request_refused = λ l e a. answers_unique a (Answers.refused l e);
       request_accepted = λ l e a. answers_unique a (Answers.accepted l e);
     }

@@ -82,7 +82,7 @@ pub record TablesRight : Type 0 where
   -- a table is refused when the rules say so, and only then; 15 where the buffer has another length
   pub refused : {text before : List ℕ} {r : Refusal} → length before ≡ WORDS → TableRefused text r → Plans text before (Err r) before
   pub only_then : {text before after : List ℕ} {r : Refusal} → length before ≡ WORDS → Plans text before (Err r) after → TableRefused text r
-  pub no_room : {text before : List ℕ} → (length before ≡ WORDS → ⊥) → Plans text before (Err no_plan) before
+  pub no_room : {text before : List ℕ} → (length before ≡ WORDS → ⊥) → Plans text before (Err no_plan) before × (number no_plan.reason ≡ 15)
   -- the rules leave no table that is read without an answer: it has a plan, or it is refused
   pub answered : {text : List ℕ} {t : Table} → Reads text t → ((w : Plan) × Planned t w) ⊎ ((r : Refusal) × TableRefused text r)
   -- the five numbers of an answer are those of what is answered to its text, where that is refused, and else those of what is answered to its modes
@@ -120,19 +120,19 @@ pub record PrintsRight : Type 0 where
   pub lines : (t : Table) (w : Plan) → PlanLines w (plan_of t w) (plan_text t w)
   -- of any others nothing: 15, and the bytes as they stood, as where the buffer has another length
   pub print_15 : {words before after : List ℕ} {x : Result ℕ Refusal} → (length before ≡ PRINTED → Stored words → ⊥) → Prints words before x after
-      → (x ≡ Err no_plan) × (after ≡ before)
+      → (x ≡ Err no_plan) × (number no_plan.reason ≡ 15) × (after ≡ before)
 
 -- what is answered to a start and to a request
 pub record MachinesRight : Type 0 where
   -- a start is refused by 15 where no accepted table leaves the words, then by 11 where the mode that is meant is not in the plan; else a machine begins in it
-  pub start_15 : {words : List ℕ} {mode : ℕ} {b : Result Machine Refusal} → (Stored words → ⊥) → Begins words mode b → b ≡ Err (nowhere_for NoPlan)
+  pub start_15 : {words : List ℕ} {mode : ℕ} {b : Result Machine Refusal} → (Stored words → ⊥) → Begins words mode b → (b ≡ Err (nowhere_for NoPlan)) × (number NoPlan ≡ 15)
   pub start_11 : {t : Table} {w : Plan} {words : List ℕ} {mode k : ℕ} {b : Result Machine Refusal} → Leaves t w words → Meant t mode k → (T (is_listed t k) → ⊥) → Begins words mode b
-      → b ≡ Err (nowhere_for NoMode)
+      → (b ≡ Err (nowhere_for NoMode)) × (number NoMode ≡ 11)
   pub start_begun : {t : Table} {w : Plan} {words : List ℕ} {mode k : ℕ} {b : Result Machine Refusal} → Leaves t w words → Meant t mode k → T (is_listed t k) → Begins words mode b
       → b ≡ Ok (machine (Run.begin (plan_of t w) k).now)
   -- a request is refused by 15 likewise; else it is refused, or accepted with its delay and the machine after it, by the rules of the table's plan
   pub request_15 : {words : List ℕ} {m n : Machine} {mode : ℕ} {clock : Tick} {a : Result Tick Refusal} → (Stored words → ⊥) → Answers words m mode clock a n
-      → (a ≡ Err (nowhere_for NoPlan)) × (n ≡ m)
+      → (a ≡ Err (nowhere_for NoPlan)) × (number NoPlan ≡ 15) × (n ≡ m)
   pub request_refused : {t : Table} {w : Plan} {words : List ℕ} {m n : Machine} {mode : ℕ} {clock : Tick} {a : Result Tick Refusal} {r : Reason} → Leaves t w words
       → Run.refusal (plan_of t w) (seen m) (asking mode clock) ≡ Some r → Answers words m mode clock a n → (a ≡ Err (nowhere_for r)) × (n ≡ m)
   pub request_accepted : {t : Table} {w : Plan} {words : List ℕ} {m n : Machine} {mode : ℕ} {clock : Tick} {a : Result Tick Refusal} → Leaves t w words

@@ -39,5 +39,10 @@ pub fn change_holds(timing: Timing, words: &[u64]) -> bool
 pub fn blank(words: &[u64]) -> bool
     ensures { Decides (words.now ≡ replicate (length words.now) 0) result }
 {
-    words.iter().all(|word| *word == 0)
+    // all words are looked at: a walk that ends at the first that is not 0 goes word by word, which was seen to cost half of a start
+    let mut some = false;
+    for word in words {
+        some |= *word != 0;
+    }
+    !some
 }

@@ -101,6 +101,16 @@ fn put_bytes(bytes: &[u8], words: &mut [u64])
     }
 }
 
+// Words, one for one. No `copy_from_slice`: of two slices of which nothing is known it becomes a call of `memmove`, which an archive for C then needs.
+fn put_words(from: &[u64], words: &mut [u64])
+    requires { length from.now ≡ length words.old }
+    ensures { words.new ≡ from.now }
+{
+    for (k, word) in words.iter_mut().enumerate() {
+        *word = from[k];
+    }
+}
+
 // The words of a channel: its bytes, and what is planned of it.
 fn put_channel(bytes: &[u8], carried: &[u64], words: &mut [u64])
     requires { (length bytes.now ≡ CHANNEL_BYTES) × (length carried.now ≡ 2) × (length words.old ≡ CHANNEL_WORDS) }
@@ -134,7 +144,7 @@ pub fn put_mode(front: &[u64], channels: &[u8], carried: &[u64], words: &mut [u6
 {
     let head = head_of(front);
     let end = FRONT_WORDS + CHANNEL_WORDS * head.count;
-    words[0..FRONT_WORDS].copy_from_slice(front);
+    put_words(front, &mut words[0..FRONT_WORDS]);
     put_channels(head.count, channels, carried, &mut words[FRONT_WORDS..end]);
     clear(&mut words[end..MODE_WORDS]);
 }

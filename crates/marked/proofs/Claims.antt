@@ -47,7 +47,7 @@ use Rattle.machine.specs.Answers.{machine}
 use Rattle.marked.specs.Lines.{Claim, prints, refuses, starts, loads, answers, Line, text_of, WhenPlanned, WhenPrinted, WhenBegun, times_at, Claimed, Holds}
 use Rattle.planning.proofs.Reckoned.{answer_of}
 use Rattle.marked.proofs.Reckoned.{passes_of, plan_for, plan_planned, first_refused}
-use Rattle.marked.proofs.Told.{Tells, begun_answers}
+use Rattle.marked.proofs.Told.{AllTold, begun_answers}
 
 -- the text is read: it passes the test by computing, and is neither empty nor too long
 abbrev pub IsRead : List ℕ → Type 0
@@ -86,7 +86,7 @@ Right text (loads o n d k q over under) =
 Right text (answers n qs) =
     Passes text
     × T (is_listed (table_in text) n)
-    × Tells (plan_of (table_in text) (plan_for (table_in text))) (machine (Run.begin (plan_of (table_in text) (plan_for (table_in text))) n).now) qs
+    × AllTold (plan_of (table_in text) (plan_for (table_in text))) (machine (Run.begin (plan_of (table_in text) (plan_for (table_in text))) n).now) qs
 
 both : (x y : Bool) → T (x && y) → T x × T y
 both x y h = (decides_and x y Iff.rfl Iff.rfl).0 h

@@ -9,6 +9,7 @@ use Rattle.numbers.specs.Sum.{sum}
 use Rattle.numbers.specs.Tab.{tab}
 use Rattle.numbers.specs.Lowest.{lowest_or}
 use Rattle.numbers.specs.Reckoned.{gcd_from}
+use Rattle.terms.specs.declared.refusal.Reason.TheVariants.{Unended}
 use Rattle.rfc4180.specs.Decimal.{writing, decimal}
 use Rattle.rfc4180.specs.Writing.{joined}
 use Rattle.reader.specs.Rows.{channels}
@@ -25,7 +26,7 @@ use Rattle.printer.specs.Texts.{texts}
 use Rattle.printer.specs.Printed.{line_text}
 use Rattle.marked.specs.Lines.{Holds, lines}
 use Rattle.planning.proofs.Reckoned.{answer_of}
-use Rattle.marked.proofs.Told.{Tells}
+use Rattle.marked.proofs.Told.{AllTold}
 use Rattle.marked.proofs.Claims.{all_hold}
 use Rattle.marked.proofs.Large.{large}
 
@@ -35,7 +36,7 @@ infixr 30 ◌&◌
 a & b = (a, b)
 
 pub marked : Every Holds lines
-unfolding lines Tells bit sum sum_of tab lowest_or gcd_from most_of rows_in readsb channels table_of padded preds_from round_from order_from chosen givers_from entries_from stays fed_of counts_from balancesb most_from common_from share_from timed_of balanced_of judge_of start_of size_of depth_from starts_from schedule_of answer_of texts line_text joined decimal writing refusal
+unfolding lines AllTold bit sum sum_of tab lowest_or gcd_from most_of rows_in readsb channels table_of padded preds_from round_from order_from chosen givers_from entries_from stays fed_of counts_from balancesb most_from common_from share_from timed_of balanced_of judge_of start_of size_of depth_from starts_from schedule_of answer_of texts line_text joined decimal writing refusal
 marked =
     all_hold lines
     (((tt, refl), refl)
@@ -52,9 +53,9 @@ marked =
     & (tt, refl)
     & (tt, refl)
     & (tt, tt, refl)
+    & ((tt, refl), tt, ((Unended, refl, refl), tt))
     & ((tt, refl), tt, (refl, tt))
     & ((tt, refl), tt, (refl, tt))
     & ((tt, refl), tt, (refl, tt))
-    & ((tt, refl), tt, (refl, tt))
-    & ((tt, refl), tt, (refl, (refl, (refl, tt))))
+    & ((tt, refl), tt, (refl, ((Unended, refl, refl), (refl, tt))))
     & tt)

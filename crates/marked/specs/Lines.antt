@@ -5,10 +5,9 @@ use Prim.Native.String.{String}
 use Rattle.numbers.specs.Fraction.{Same}
 use Rattle.units.specs.declared.Tick.{Tick}
 use Rattle.units.specs.Ticks.{tick}
-use Rattle.terms.specs.Refusal.{nowhere_for, line_of, printed_of}
+use Rattle.terms.specs.Refusal.{number_of, nowhere_for, line_of, printed_of}
 use Rattle.terms.specs.Text.{bytes}
 use Rattle.terms.specs.declared.refusal.Reason.{Reason}
-use Rattle.terms.specs.declared.refusal.Reason.TheVariants.{Unended}
 use Rattle.terms.specs.declared.refusal.Refusal.{Refusal}
 use Rattle.tables.specs.Shape.{Table, mode_at}
 use Rattle.graph.specs.declared.Fault.{Fault}
@@ -24,21 +23,25 @@ use Rattle.planner.specs.Plans.{Reads, Plans, Prints}
 use Rattle.machine.specs.declared.Machine.{Machine}
 use Rattle.machine.specs.Answers.{Begins, Answers}
 
--- what a request is told: its delay, or why it is refused
+-- what is answered to a request
 abbrev pub Reply : Type 0
 Reply = Result Tick Refusal
 
-abbrev pub delay : ℕ → Reply
-delay n = Ok (tick n)
+-- what a request is told: its delay, or the number of its refusal
+pub data Told : Type 0 where
+  delay : ℕ → Told
+  refused : ℕ → Told
 
-abbrev pub refused : Reason → Reply
-refused r = Err (nowhere_for r)
+-- the reply tells this: it accepts, with that delay; or it refuses, for the reason that has this number, at no place of a table
+abbrev pub Tells : Reply → Told → Type 0
+Tells a (delay n) = a ≡ Ok (tick n)
+Tells a (refused n) = (r : Reason) × (number_of r ≡ n) × (a ≡ Err (nowhere_for r))
 
 -- a request for a mode at a tick, and what it is told
 pub record Asked : Type 0 where
   pub mode : ℕ
   pub clock : ℕ
-  pub told : Reply
+  pub told : Told
 
 -- What is claimed of a table. Modes, actors and processors go by their numbers.
 pub data Claim : Type 0 where
@@ -77,7 +80,7 @@ WhenPrinted words text =
 unfoldable pub WhenAsked : List ℕ → Machine → List Asked → Type 0
 WhenAsked words m [] = Unit {0}
 WhenAsked words m (q ∷ qs) =
-    (a : Reply) (n : Machine) → Answers words m q.mode (tick q.clock) a n → (a ≡ q.told) × WhenAsked words n qs
+    (a : Reply) (n : Machine) → Answers words m q.mode (tick q.clock) a n → Tells a q.told × WhenAsked words n qs
 
 -- whatever a start in this mode answers, it is a machine, and that machine is asked these requests
 abbrev pub WhenBegun : List ℕ → ℕ → List Asked → Type 0
@@ -200,7 +203,7 @@ abbrev line : String → List String → Claim → Line
 line name rows claim = record { name = name; rows = rows; claim = claim }
 
 -- a request, and the line of a machine that begins in mode 2 on the plan of the printed table and is asked some
-abbrev asked : ℕ → ℕ → Reply → Asked
+abbrev asked : ℕ → ℕ → Told → Asked
 asked mode clock told = record { mode = mode; clock = clock; told = told }
 
 abbrev from_two : String → List Asked → Line
@@ -223,9 +226,9 @@ lines =
     ∷ line "P10" ("actor,1,1,1,1,1" ∷ "actor,1,2,1,1,1" ∷ "channel,1,1,2,1,1" ∷ []) (refuses 9 0 1 0 1)
     ∷ line "P11" chain (refuses 10 0 1 2 0)
     ∷ line "P11, its starts" chain (starts 1 (0 ∷ 4 ∷ 2 ∷ []))
-    ∷ from_two "P12 at 19" (asked 1 19 (refused Unended) ∷ [])
+    ∷ from_two "P12 at 19" (asked 1 19 (refused 14) ∷ [])
     ∷ from_two "P12 at 20" (asked 1 20 (delay 26) ∷ [])
     ∷ from_two "P12 at 24" (asked 1 24 (delay 22) ∷ [])
     ∷ from_two "P12 at 25" (asked 1 25 (delay 29) ∷ [])
-    ∷ from_two "from mode 2" (asked 1 21 (delay 25) ∷ asked 2 45 (refused Unended) ∷ asked 2 46 (delay 22) ∷ [])
+    ∷ from_two "from mode 2" (asked 1 21 (delay 25) ∷ asked 2 45 (refused 14) ∷ asked 2 46 (delay 22) ∷ [])
     ∷ []

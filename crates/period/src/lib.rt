@@ -46,9 +46,12 @@ pub fn iteration(common: Firing, work: Tick, limit: Tick) -> Option<Tick>
     ensures { IterationWithin common work limit result }
 {
     let each = common.firings();
-    let ticks = each.checked_mul(rounded_up(work.ticks(), each))?;
-    let iteration = Tick::of(ticks);
-    iteration.at_most(limit).then_some(iteration)
+    let times = rounded_up(work.ticks(), each);
+    if times <= limit.ticks() / each {
+        Some(Tick::of(each * times))
+    } else {
+        None
+    }
 }
 
 // The period of an actor with so many firings in an iteration.

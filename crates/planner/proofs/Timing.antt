@@ -25,7 +25,7 @@ use Rattle.planning.specs.Changes.{no_running, running_at, Between, ChangeOf, Fo
 use Rattle.planning.proofs.Reckoned.{changes_of, changes_found}
 use Rattle.planning.proofs.Unique.{between_unique}
 use Rattle.layout.specs.Words.{CHANGES, CHANGE_WORDS, change_words, change_words_at, changes_words}
-use Rattle.planner.specs.Changes.{front_at, runnings_in, works_listed, Worked, Runs, Kept, ChangeFound, ChangesPut}
+use Rattle.planner.specs.Changes.{front_at, runnings_in, works_listed, Worked, Runs, Kept, ChangeFound, ChangeWords, ChangesPut}
 
 -- the modes that words hold, one by one
 running_at_law : (words : List ℕ) (k : ℕ) → k < MODES → running_at (runnings_in words) k ≡ running_in (front_at words k)
@@ -94,10 +94,14 @@ module _ (modes : List ℕ) (runs : Runs modes) where
       })
 
   -- the change at place n
-  pub change_found : (n : ℕ) → n < CHANGES → {t : Timing} → ChangeOf (runnings_in modes) n t → change_words t ≡ change_in modes n
+  change_found : (n : ℕ) → n < CHANGES → {t : Timing} → ChangeOf (runnings_in modes) n t → change_words t ≡ change_in modes n
   change_found n within p =
       ap change_words
       (between_unique (running_at (runnings_in modes) (n / MODES)) (running_at (runnings_in modes) (n % MODES)) (n / MODES) (n % MODES) p (found.each n within))
+
+  -- the words of the change there
+  pub words_found : (n : ℕ) → n < CHANGES → {those : List ℕ} → ChangeWords modes n those → those ≡ change_in modes n
+  words_found n within (t, p, e) = e ∙ change_found n within p
 
   -- they are put behind the modes
   pub changes_put : (behind : List ℕ) (n : ℕ) → n ≡ CHANGES → Begun CHANGE_WORDS (change_in modes) CHANGES behind n → ChangesPut modes (modes ++ behind)

@@ -10,8 +10,8 @@ use Rattle.change.specs.declared.Prepared.{Prepared}
 use Rattle.change.specs.declared.Works.{Works}
 use Rattle.change.specs.Change.{Changes}
 use Rattle.change.specs.Running.{Running, Fitting, running_in, mode_times, Ready, ReadyFront}
-use Rattle.planning.specs.Changes.{FoundChanges}
-use Rattle.layout.specs.Words.{MODE_WORDS, changes_words}
+use Rattle.planning.specs.Changes.{ChangeOf, FoundChanges}
+use Rattle.layout.specs.Words.{MODE_WORDS, change_words, changes_words}
 
 -- the words of all modes
 abbrev pub MODES_WORDS : ℕ
@@ -51,6 +51,10 @@ Apart words k l = ((head_in (front_at words k)).active ≡ 0 → ⊥) × ((head_
 abbrev pub ChangeFound : List ℕ → ℕ → ℕ → Option Timing → Type 0
 ChangeFound words k l None = Apart words k l → ⊥
 ChangeFound words k l (Some t) = Apart words k l × Changes (mode_times (running_in (front_at words k))) (mode_times (running_in (front_at words l))) t
+
+-- the words of the change at this place of all pairs of modes
+abbrev pub ChangeWords : List ℕ → ℕ → List ℕ → Type 0
+ChangeWords words n those = (t : Timing) × ChangeOf (runnings_in words) n t × (those ≡ change_words t)
 
 -- behind the words of all modes stand those of the changes between them
 abbrev pub ChangesPut : List ℕ → List ℕ → Type 0

@@ -1,18 +1,16 @@
 // The changes between the modes that words hold.
-ghost use Rattle.std.specs.Prelude.{◌≡◌, ◌<◌, length, take};
+ghost use Rattle.std.specs.Prelude.{None, ◌≡◌, ◌<◌, List, ℕ, length, replicate, take};
+ghost use Rattle.numbers.specs.Decides.{Decides};
 ghost use Rattle.units.specs.Limits.{MODES as MODES_LIMIT};
 ghost use Rattle.tables.specs.Memory.{FRONT_WORDS};
-ghost use Rattle.planning.specs.Changes.{ChangeOf};
-ghost use Rattle.layout.specs.Words.{CHANGES as CHANGES_LIMIT, WORDS};
-ghost use Rattle.planner.specs.Changes.{MODES_WORDS, front_at, runnings_in, works_listed, Worked, Runs, Kept, ChangeFound, ChangesPut, ChangesHeld};
+ghost use Rattle.layout.specs.Words.{CHANGES as CHANGES_LIMIT, CHANGE_WORDS as WORDS_OF_A_CHANGE, WORDS};
+ghost use Rattle.planner.specs.Changes.{MODES_WORDS, front_at, Worked, Runs, Kept, ChangeFound, ChangeWords, ChangesPut, ChangesHeld};
 
 use change::{Prepared, Timing, Works, change, works_in};
-use layout::compare::change_holds;
+use layout::compare::{blank, change_holds};
 use layout::store::put_change;
 use layout::{CHANGE_WORDS, CHANGES, MODE_WORDS, MODES_END};
-use std::array;
-use tables::memory::{FRONT_WORDS, head_of};
-use units::Tick;
+use tables::memory::{FRONT_WORDS, clear, head_of};
 use units::limits::{ACTORS, MODES};
 
 // The works of each mode, where it is listed.
@@ -27,25 +25,17 @@ fn front_at(words: &[u64], m: usize) -> &[u64]
     &words[a..a + FRONT_WORDS]
 }
 
-// The works of mode m, where it is listed.
-fn works_at(words: &[u64], m: usize) -> Option<[Works; ACTORS]>
-    requires { Runs words.now × (m < MODES_LIMIT) }
-    ensures { result ≡ works_listed (front_at words.now m) }
+// The works of all modes that are listed, put into places that are lent: handed back by value they would be set to 0 and copied on their way.
+fn all_works(words: &[u64], works: &mut AllWorks)
+    requires { Runs words.now × (works.old ≡ replicate MODES_LIMIT None) }
+    ensures { Worked words.now works.new }
 {
-    let front = front_at(words, m);
-    if head_of(front).active == 0 {
-        None
-    } else {
-        Some(works_in(front))
+    for (m, of) in works.iter_mut().enumerate() {
+        let front = front_at(words, m);
+        if head_of(front).active != 0 {
+            *of = Some(works_in(front));
+        }
     }
-}
-
-// The works of all modes that are listed.
-fn all_works(words: &[u64]) -> AllWorks
-    requires { Runs words.now }
-    ensures { Worked words.now result }
-{
-    array::from_fn(|m| works_at(words, m))
 }
 
 // Mode m as it is kept for changes, where it is listed.
@@ -73,17 +63,26 @@ fn change_at(words: &[u64], works: &AllWorks, k: usize, l: usize) -> Option<Timi
     Some(change(old, new))
 }
 
-// The change at this place of all pairs of modes.
-fn timing_at(words: &[u64], works: &AllWorks, place: usize) -> Timing
-    requires { Runs words.now × Worked words.now works.now × (place < CHANGES_LIMIT) }
-    ensures { ChangeOf (runnings_in words.now) place result }
+// Puts the change at this place of all pairs of modes into its words, which are 0 where there is none.
+fn put_change_at(words: &[u64], works: &AllWorks, place: usize, put: &mut [u64])
+    requires { Runs words.now × Worked words.now works.now × (place < CHANGES_LIMIT) × (length put.old ≡ WORDS_OF_A_CHANGE) }
+    ensures { ChangeWords words.now place put.new }
 {
-    // the plan's words are 0 where there is no change
-    change_at(words, works, place / MODES, place % MODES).unwrap_or(Timing {
-        overlap: Tick::NONE,
-        offset: Tick::NONE,
-        worst: Tick::NONE,
-    })
+    match change_at(words, works, place / MODES, place % MODES) {
+        Some(timing) => put_change(timing, put),
+        None => clear(put),
+    }
+}
+
+// Whether these are the words of the change at this place of all pairs of modes.
+fn change_holds_at(words: &[u64], works: &AllWorks, place: usize, held: &[u64]) -> bool
+    requires { Runs words.now × Worked words.now works.now × (place < CHANGES_LIMIT) × (length held.now ≡ WORDS_OF_A_CHANGE) }
+    ensures { (those : List ℕ) × ChangeWords words.now place those × Decides (held.now ≡ those) result }
+{
+    match change_at(words, works, place / MODES, place % MODES) {
+        Some(timing) => change_holds(timing, held),
+        None => blank(held),
+    }
 }
 
 // Writes the changes behind the modes.
@@ -92,14 +91,12 @@ pub(crate) fn put_changes(words: &mut [u64])
     ensures { ChangesPut (take MODES_WORDS words.old) words.new }
 {
     let (modes, behind) = words.split_at_mut(MODES_END);
-    let works = all_works(modes);
+    let mut works = [None; MODES];
+    all_works(modes, &mut works);
     // n is the place of a pair of modes, of which they and the place of their words come
     for n in 0..CHANGES {
         let a = CHANGE_WORDS * n;
-        put_change(
-            timing_at(modes, &works, n),
-            &mut behind[a..a + CHANGE_WORDS],
-        );
+        put_change_at(modes, &works, n, &mut behind[a..a + CHANGE_WORDS]);
     }
 }
 
@@ -109,11 +106,12 @@ pub(crate) fn changes_hold(words: &[u64]) -> bool
     ensures { ChangesHeld words.now result }
 {
     let (modes, behind) = words.split_at(MODES_END);
-    let works = all_works(modes);
+    let mut works = [None; MODES];
+    all_works(modes, &mut works);
     // n is the place of a pair of modes, of which they and the place of their words come
     for n in 0..CHANGES {
         let a = CHANGE_WORDS * n;
-        if !change_holds(timing_at(modes, &works, n), &behind[a..a + CHANGE_WORDS]) {
+        if !change_holds_at(modes, &works, n, &behind[a..a + CHANGE_WORDS]) {
             return false;
         }
     }

@@ -67,7 +67,8 @@ pub fn print_refusal(refusal: Refusal, out: &mut [u8]) -> usize
     requires { length out.old ≡ PRINTED_LIMIT }
     ensures { Shows (refusal_text refusal) out.new result }
 {
-    let end = bytes::line(out, 0, b"refused", &refusal.printed().five());
+    let printed = refusal.printed();
+    let end = bytes::line(out, 0, b"refused", &printed.five());
     bytes::blank(out, end);
     end
 }

@@ -6,6 +6,7 @@ ghost use Rattle.terms.specs.Text.{bytes};
 ghost use Rattle.reader.specs.Lines.{InText, bytes_of, raws_of, RatesOf, RowOf, LineAt, channel_in};
 
 use crate::rates::{Rates, rates_of};
+use rfc4180::bytes::same;
 use rfc4180::decimal::number_of;
 use rfc4180::record::{KEPT, Span, record_at};
 use tables::{Actor, Channel};
@@ -136,9 +137,9 @@ pub fn line_at(text: &[u8], at: usize) -> Result<Line, Reason>
     }
     let fields = record.fields;
     let word = bytes_of(text, fields[0]);
-    let line = if word == b"actor".as_slice() {
+    let line = if same(word, b"actor") {
         actor_line(text, fields, record.next)
-    } else if word == b"channel".as_slice() {
+    } else if same(word, b"channel") {
         channel_line(text, fields, record.next)
     } else {
         None

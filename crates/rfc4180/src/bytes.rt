@@ -34,7 +34,7 @@ pub(crate) fn class_at(s: &[u8], i: usize) -> Option<Class>
     Some(class_of(*s.get(i)?))
 }
 
-// Whether two texts are the same. It is `==`; it stays, for its statement and its wrong answers are public.
+// Whether two texts are the same.
 pub fn same(a: &[u8], b: &[u8]) -> bool
     ensures { Decides (a.now ≡ b.now) result }
 {

@@ -2,6 +2,9 @@
 ghost use Rattle.rfc4180.specs.Digits.{DigitOf, DigitAt, RunAt};
 ghost use Rattle.rfc4180.specs.Numbers.{NumberOf, ItemAt};
 
+// The greatest number of 64 bits.
+pub const GREATEST: u64 = u64::MAX;
+
 // A number that stands in a text, and the place behind it.
 #[derive(Clone, Copy)]
 pub struct Item {
@@ -33,6 +36,7 @@ fn run_at(s: &[u8], at: usize, most: u64) -> Option<Item>
     if most < value {
         return None;
     }
+    let tenth = most / 10;
     let second = at + 1;
     for (i, byte) in s[second..].iter().enumerate() {
         let Some(digit) = digit_of(*byte) else {
@@ -44,11 +48,14 @@ fn run_at(s: &[u8], at: usize, most: u64) -> Option<Item>
         if value == 0 {
             return None;
         }
-        let more = value.checked_mul(10)?.checked_add(digit)?;
-        if most < more {
+        if tenth < value {
             return None;
         }
-        value = more;
+        let tens = value * 10;
+        if most - tens < digit {
+            return None;
+        }
+        value = tens + digit;
     }
     Some(Item {
         value,

@@ -18,7 +18,7 @@ put_channels-requires c =
 pub returns : goal.returns
 returns c =
     mode_put _ _ _ c.requires.4 _ (ap (λ (h : Head). h.count) c.head_of-head.ensures) c.args.words.now _ _ _ c.requires.3 c.requires.0
-    c.copy_from_slice.ensures.after c.put_channels.ensures c.clear.ensures
+    c.put_words.ensures c.put_channels.ensures c.clear.ensures
 
 pub overflow_mul-end : goal.overflow_mul-end
 overflow_mul-end c = omega (arith, few c.requires.4 c.head_of-head.ensures)

@@ -1,5 +1,5 @@
 -- rfc4180::decimal::run_at meets its contract. The invariant: the digits up to the end write the value, which is at most the most.
-use Rattle.std.proofs.Common.{arith, ◌≡◌, ◌+◌, ◌*◌, ◌∙◌, ap, ℕ}
+use Rattle.std.proofs.Common.{arith, ◌≡◌, ◌+◌}
 use Rattle.rfc4180.proofs.Runs.{run_none, run_first, run_more, stands_first, stands_more, digit_behind}
 use Rattle.rfc4180.proofs.decimal.run_at.Goals as goal
 
@@ -15,22 +15,13 @@ loop-i-init c = let e : c.args.at + 1 + 0 ≡ c.args.at + 1 = omega arith in rw 
 pub returns-then-value-eq0 : goal.returns-then-value-eq0
 returns-then-value-eq0 c = λ n end r. omega (arith, run_more (digit_behind _ _ _ c.loop-i-test.true c.in-Some.ensures) r c.loop-i.invariant)
 
-pub returns-in_err-checked_mul : goal.returns-in_err-checked_mul
-returns-in_err-checked_mul c =
-    rw c.from_residual-in_err-checked_mul.ensures
-    (λ n end r. absurd (c.in_err-checked_mul.ensures (omega (arith, c.ranges.most.fits, r.0.small, run_more (digit_behind _ _ _ c.loop-i-test.true c.in-Some.ensures) r c.loop-i.invariant))))
+pub returns-then-tenth-value : goal.returns-then-tenth-value
+returns-then-tenth-value c = λ n end r. omega (arith, r.0.small, run_more (digit_behind _ _ _ c.loop-i-test.true c.in-Some.ensures) r c.loop-i.invariant)
 
-pub returns-in_err-more : goal.returns-in_err-more
-returns-in_err-more c =
-    rw c.from_residual-in_err-more.ensures
-    (λ n end r. absurd (c.in_err-more.ensures (omega (arith, c.ranges.most.fits, c.in_ok-checked_mul.ensures.1, r.0.small, run_more (digit_behind _ _ _ c.loop-i-test.true c.in-Some.ensures) r c.loop-i.invariant))))
-
-pub returns-then-most-more : goal.returns-then-most-more
-returns-then-most-more c =
-    λ n end r. omega (arith, c.in_ok-more.ensures, c.in_ok-checked_mul.ensures.1, r.0.small, run_more (digit_behind _ _ _ c.loop-i-test.true c.in-Some.ensures) r c.loop-i.invariant)
+pub returns-then-most-tens : goal.returns-then-most-tens
+returns-then-most-tens c = λ n end r. omega (arith, r.0.small, run_more (digit_behind _ _ _ c.loop-i-test.true c.in-Some.ensures) r c.loop-i.invariant)
 
 pub loop-i-preserved : goal.loop-i-preserved
 loop-i-preserved c =
     let e : c.args.at + 1 + (c.loop-i.i + 1) ≡ c.args.at + 1 + c.loop-i.i + 1 = omega arith in
-    let v : c.in_ok-more.more ≡ c.loop-i.value * 10 + c.in-Some.digit = c.in_ok-more.ensures.1 ∙ ap (λ (x : ℕ). x + c.in-Some.digit) c.in_ok-checked_mul.ensures.1 in
-    rw (e, v) (stands_more (digit_behind _ _ _ c.loop-i-test.true c.in-Some.ensures) c.loop-i.invariant (omega arith) (omega (arith, v)))
+    rw e (stands_more (digit_behind _ _ _ c.loop-i-test.true c.in-Some.ensures) c.loop-i.invariant (omega arith) (omega arith))
