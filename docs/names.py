@@ -91,7 +91,7 @@ def main():
     edits = {os.path.basename(f)[:-5] for f in files('crates', '.edit')}
     for page in list(files('docs', '.md')) + [os.path.join(TOP, 'README.md')]:
         name = os.path.basename(page)
-        if name in ('PORT.md', 'DESIGN-PASS.md'):  # they name what was before
+        if name in ('PORT.md', 'DESIGN-PASS.md', 'LOOK-BACK.md'):  # they name what was before
             continue
         for quoted in re.findall(r'`([^`\n]+)`', text(page)):
             if re.fullmatch(r'(crates|docs|bench|examples|include|tools)/[\w./-]+', quoted):
