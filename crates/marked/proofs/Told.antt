@@ -18,7 +18,7 @@ use Rattle.machine.specs.declared.Machine.{Machine}
 use Rattle.machine.specs.Answers.{seen, asking, machine, begun, delay_of, changed_of, Answers}
 use Rattle.machine.proofs.Unique.{begins_unique, answers_unique}
 use Rattle.machine.proofs.Steps.{meant_named}
-use Rattle.marked.specs.Lines.{Reply, Tells, Asked, WhenAsked, WhenBegun}
+use Rattle.marked.specs.Lines.{Reply, IsTold, Asked, WhenAsked, WhenBegun}
 
 -- the answer to a request, and the machine after it, by why it is refused
 abbrev answer_by : Option Reason → RunPlan → Machine → ℕ → Tick → Reply × Machine
@@ -31,7 +31,7 @@ answer_to p m q = answer_by (Run.refusal p (seen m) (asking q.mode (tick q.clock
 -- requests one after the other are told what is claimed
 unfoldable pub AllTold : RunPlan → Machine → List Asked → Type 0
 AllTold p m [] = Unit {0}
-AllTold p m (q ∷ qs) = Tells (answer_to p m q).0 q.told × AllTold p (answer_to p m q).1 qs
+AllTold p m (q ∷ qs) = IsTold (answer_to p m q).0 q.told × AllTold p (answer_to p m q).1 qs
 
 module _ {t : Table} {w : Plan} {words : List ℕ} (l : Leaves t w words) where
   answer_to_law : (m : Machine) (q : Asked) → let a = answer_to (plan_of t w) m q in Answers words m q.mode (tick q.clock) a.0 a.1
@@ -47,7 +47,7 @@ module _ {t : Table} {w : Plan} {words : List ℕ} (l : Leaves t w words) where
   answered m [] h = tt
   answered m (q ∷ qs) h = λ a n x.
       let (e, f) = answers_unique x (answer_to_law m q) in
-      (subst (λ (a : Reply). Tells a q.told) (sym e) h.0, subst (λ (n : Machine). WhenAsked words n qs) (sym f) (answered (answer_to (plan_of t w) m q).1 qs h.1))
+      (subst (λ (a : Reply). IsTold a q.told) (sym e) h.0, subst (λ (n : Machine). WhenAsked words n qs) (sym f) (answered (answer_to (plan_of t w) m q).1 qs h.1))
 
   -- a machine that begins in mode n
   pub begun_answers : (n : ℕ) (qs : List Asked) → T (is_listed t n) → AllTold (plan_of t w) (machine (Run.begin (plan_of t w) n).now) qs → WhenBegun words n qs

@@ -32,10 +32,10 @@ pub data Told : Type 0 where
   delay : ℕ → Told
   refused : ℕ → Told
 
--- the reply tells this: it accepts, with that delay; or it refuses, for the reason that has this number, at no place of a table
-abbrev pub Tells : Reply → Told → Type 0
-Tells a (delay n) = a ≡ Ok (tick n)
-Tells a (refused n) = (r : Reason) × (number_of r ≡ n) × (a ≡ Err (nowhere_for r))
+-- this is told in a reply: it accepts, with that delay; or it refuses, for the reason that has this number, at no place of a table
+abbrev pub IsTold : Reply → Told → Type 0
+IsTold a (delay n) = a ≡ Ok (tick n)
+IsTold a (refused n) = (r : Reason) × (number_of r ≡ n) × (a ≡ Err (nowhere_for r))
 
 -- a request for a mode at a tick, and what it is told
 pub record Asked : Type 0 where
@@ -80,7 +80,7 @@ WhenPrinted words text =
 unfoldable pub WhenAsked : List ℕ → Machine → List Asked → Type 0
 WhenAsked words m [] = Unit {0}
 WhenAsked words m (q ∷ qs) =
-    (a : Reply) (n : Machine) → Answers words m q.mode (tick q.clock) a n → Tells a q.told × WhenAsked words n qs
+    (a : Reply) (n : Machine) → Answers words m q.mode (tick q.clock) a n → IsTold a q.told × WhenAsked words n qs
 
 -- whatever a start in this mode answers, it is a machine, and that machine is asked these requests
 abbrev pub WhenBegun : List ℕ → ℕ → List Asked → Type 0
